@@ -1,0 +1,4 @@
+pub mod Bits
+pub mod Toggles
+pub mod Columns
+pub mod Arithmetic
