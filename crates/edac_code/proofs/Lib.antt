@@ -1,0 +1,4 @@
+pub mod Tables
+pub mod Checks
+pub mod Syndromes
+pub mod Answered
