@@ -1,0 +1,17 @@
+pub mod Start
+pub mod Fields
+pub mod Opcodes
+pub mod State
+pub mod Operation
+pub mod Effect
+pub mod Run
+pub mod Places
+pub mod Order
+pub mod Value
+pub mod Once
+pub mod Execution
+pub mod Results
+pub mod Texts
+pub mod TransferLines
+pub mod Report
+pub mod Step

@@ -13,7 +13,7 @@ pub enum TurnKind {
     Snoop,
     /// The scrubber reads a line.
     Look,
-    /// The scrubber writes a repaired word back.
+    /// The scrubber reads a word again and, if it can be corrected, writes it back.
     Fix,
 }
 
@@ -28,7 +28,7 @@ pub enum Why {
     Word,
     /// Miss: no line matches, and a way with a bad tag byte was dropped.
     Tag,
-    /// Miss: a byte of a wanted word is bad, and the line was dropped.
+    /// Miss: a byte of a wanted word is bad, and the line was dropped. Reports say `data`.
     Byte,
     /// Drain: the store buffer is full.
     Full,
@@ -59,7 +59,7 @@ pub struct Transfer {
     pub master: u32,
     /// The core's step, or how many turns the scrubber made before.
     pub step: u32,
-    /// The address, of a line for fetch, load and look.
+    /// The address: of the line for fetch, load and look, 0 for snoop.
     pub addr: u32,
     pub kind: TurnKind,
     pub why: Why,
@@ -67,7 +67,7 @@ pub struct Transfer {
     pub way: u8,
     /// The number of words read.
     pub words: u8,
-    /// The length in bytes of a store or an atomic while the bus keeps it, else 0.
+    /// The length in bytes of a store or an atomic while the bus keeps it, else 0; always 0 in a trace.
     pub len: u8,
 }
 
@@ -82,7 +82,7 @@ pub struct Line {
     pub bad: [bool; 8],
 }
 
-/// A word of memory holds two flips: where, and its syndrome.
+/// A word of memory reads bad, since two different bits of it are flipped: where, and its syndrome.
 #[derive(Clone, Copy, Debug)]
 pub struct Bad {
     pub addr: u32,
@@ -103,12 +103,13 @@ pub struct Pending {
     pub len: u8,
 }
 
-/// An entry of the log: a store or an atomic that reached memory, in the order in which they did.
+/// A memory operation as the program makes it. The entries of the log are the stores and atomics that reached
+/// memory, in the order in which they did.
 #[derive(Clone, Copy, Debug)]
 pub struct Entry {
-    /// The number that an atomic read.
+    /// The number that a load or an atomic read, else 0.
     pub got: u64,
-    /// The number stored.
+    /// The number that a store or an atomic put, else 0.
     pub put: u64,
     pub core: u32,
     /// The number of the operation on its core.

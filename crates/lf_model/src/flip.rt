@@ -7,7 +7,11 @@ pub type Flips = Listed<Flip>;
 #[derive(Clone, Copy, Debug)]
 pub enum Flip {
     /// Bit `bit` (below 39) of the memory word at `addr`, as turn `turn` of the bus begins.
-    Mem { turn: u32, addr: u32, bit: u8 },
+    Mem {
+        turn: u32,
+        addr: u32,
+        bit: u8,
+    },
     /// Bit `bit` (below 39) of register cell `cell` (below 136), as step `step` of core `core` begins.
     Reg {
         core: u32,

@@ -6,7 +6,7 @@ pub type Bytes = Listed<u8>;
 /// The segments of an image, in the order of its program headers.
 pub type Segments = Listed<Segment>;
 
-/// Ranges of addresses, in order.
+/// Ranges of addresses, in the order of the segments and, inside one, of its sections.
 pub type Ranges = Listed<Range>;
 
 /// A loadable segment: `size` bytes of RAM from `addr` on, which start with `bytes` and go on with 0.

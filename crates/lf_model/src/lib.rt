@@ -6,6 +6,7 @@
 //! them. SPARC V8 means The SPARC Architecture Manual, Version 8, and GRLIB the GRLIB IP Core User's Manual.
 #![tactic(auto)]
 
+pub mod addresses;
 pub mod bus;
 pub mod config;
 pub mod control;

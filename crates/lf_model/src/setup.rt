@@ -13,7 +13,7 @@ pub struct Setup {
 /// Who makes an event of a schedule.
 #[derive(Clone, Copy, Debug)]
 pub enum Actor {
-    /// A core, its next step.
+    /// A core: its next step, or its next drain after the last.
     Core,
     /// A core, the drain of a waiting store.
     Drain,
@@ -25,7 +25,7 @@ pub enum Actor {
 #[derive(Clone, Copy, Debug)]
 pub struct Event {
     pub actor: Actor,
-    /// The number of the core, 0 for the scrubber.
+    /// The number of the core; of no meaning for the scrubber.
     pub core: u32,
     pub count: u32,
 }

@@ -7,7 +7,7 @@ pub enum Look {
     Miss(Why),
 }
 
-/// A register cell holds two flips: which, and its syndrome.
+/// A register cell reads bad, since two different bits of it are flipped: which, and its syndrome.
 #[derive(Clone, Copy, Debug)]
 pub struct RegBad {
     pub cell: usize,
@@ -22,9 +22,16 @@ pub struct Full;
 #[derive(Clone, Copy, Debug)]
 pub enum Turn {
     /// A fill of the fetch cache.
-    Fetch { line: u32, why: Why },
+    Fetch {
+        line: u32,
+        why: Why,
+    },
     /// A fill of the data cache for a load of `len` bytes.
-    Load { addr: u32, len: u8, why: Why },
+    Load {
+        addr: u32,
+        len: u8,
+        why: Why,
+    },
     /// LDSTUB or SWAP, which puts `new` and writes what it reads to the register `rd`.
     Atomic {
         addr: u32,
@@ -43,7 +50,7 @@ pub enum Turn {
 pub enum Did {
     /// The instruction retired, or took a trap.
     Retired,
-    /// A turn on the bus was made, and the instruction is not done yet.
+    /// A fill, a drain or a snoop turn was made, and gave no stop.
     Turned,
     /// The step needs a turn on the bus.
     Need(Turn),

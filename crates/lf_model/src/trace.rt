@@ -24,7 +24,7 @@ pub type Words2 = Listed<Word2>;
 /// A memory operation.
 #[derive(Clone, Copy, Debug)]
 pub struct Op {
-    /// The number read by a load or an atomic, big-endian, else 0.
+    /// The number read by a load or an atomic, else 0; of a signed load the bytes read.
     pub got: u64,
     /// The number stored by a store or an atomic, else 0.
     pub put: u64,
@@ -48,7 +48,7 @@ pub enum CoreEnd {
     Halt(u8),
     /// By an error trap: its type, the register cell (type 20 hex) or the transfer, and the syndrome.
     Stop { tt: u8, place: u32, syn: u8 },
-    /// After its last step.
+    /// After its last step, with no other end, and with each waiting store drained.
     Limit,
     /// At an instruction that is not built yet.
     Unbuilt,
@@ -89,11 +89,12 @@ pub struct CoreResult {
 pub enum Fate {
     /// Its turn or step never came.
     Late,
-    /// Its unit held as many flips as it may.
+    /// Its unit held as many flips as it may since it was last written.
     Declined,
-    /// A read, a fix, a part store or an atomic wrote the word or cell back.
+    /// The next write of its cell was a register read's write-back, or that of its word was by a fix, a part store
+    /// or an atomic.
     Repaired,
-    /// A check found its unit bad and dropped the line.
+    /// A check found its unit struck by this flip and dropped the line.
     Discarded,
     /// An error trap met its word or cell.
     Stopped,
@@ -103,7 +104,7 @@ pub enum Fate {
     Dormant,
 }
 
-/// A word by its address; `None` is one that reads bad.
+/// A word by its address, and its value; `None` is one that reads bad.
 #[derive(Clone, Copy, Debug)]
 pub struct Word2 {
     pub addr: u32,

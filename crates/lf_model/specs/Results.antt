@@ -1,0 +1,95 @@
+-- The rule Result: what the trace tells of each core and each watched word is that of the execution.
+use Rattle.std.specs.Prelude.{ℕ, ◌≡◌, ◌≢◌, ◌≤◌, ◌<◌, ◌+◌, ◌==◌, ◌&&◌, Bool, true, ⊤, List, length, filter, count_by, slice_get, Option, Some, None, IfSome, nat_lt, if◌then◌else◌}
+use Rattle.lf_model.specs.Start.{initial_byte, number_at}
+use Rattle.lf_model.specs.State.{State, register, psr_of}
+use Rattle.lf_model.specs.Operation.{of_core, enters, is_lost}
+use Rattle.lf_model.specs.Run.{Run, effect_at_pc}
+use Rattle.lf_model.specs.Places.{FailsNowhere}
+use Rattle.lf_model.specs.Value.{stored}
+use Rattle.lf_model.specs.Execution.{run_of_core}
+use Rattle.lf_model.specs.declared.bus.Transfer.{Transfer}
+use Rattle.lf_model.specs.declared.trace.CoreEnd.{CoreEnd}
+use Rattle.lf_model.specs.declared.trace.CoreEnd.TheVariants.{Halt, Stop, Limit, Unbuilt}
+use Rattle.lf_model.specs.declared.trace.CoreResult.{CoreResult}
+use Rattle.lf_model.specs.declared.trace.Op.{Op}
+use Rattle.lf_model.specs.declared.trace.Word2.{Word2}
+use Rattle.lf_model.specs.declared.trace.Trace.{Trace}
+use Rattle.lf_model.specs.declared.setup.Setup.{Setup}
+
+-- the trap type by which an end enters error mode
+abbrev pub halt_of : CoreEnd → Option ℕ
+halt_of (Halt tt_) = Some tt_
+halt_of (Stop tt_ place syn) = None
+halt_of Limit = None
+halt_of Unbuilt = None
+
+-- the last step of some ends retires nothing and makes no transfer: it reads a bad register, or it meets an
+-- instruction that is not built
+abbrev pub idle_steps : CoreEnd → ℕ
+idle_steps (Halt tt_) = 0
+idle_steps (Stop tt_ place syn) = if tt_ == 0x20 then 1 else 0
+idle_steps Limit = 0
+idle_steps Unbuilt = 1
+
+-- the limit comes after all steps, and `unbuilt` at an instruction that is not built
+abbrev pub IsEnd : Setup → ℕ → State → ℕ → CoreEnd → Type 0
+IsEnd setup c s steps (Halt tt_) = ⊤
+IsEnd setup c s steps (Stop tt_ place syn) = ⊤
+IsEnd setup c s steps Limit = steps ≡ setup.config.steps
+IsEnd setup c s steps Unbuilt = effect_at_pc setup c s ≡ None
+
+-- the end of a core whose part store met a bad word, by which stores are lost
+abbrev pub LosesStores : CoreEnd → Type 0
+LosesStores (Halt tt_) = ⊥
+LosesStores (Stop tt_ place syn) = tt_ ≡ 0x2B
+LosesStores Limit = ⊥
+LosesStores Unbuilt = ⊥
+
+-- the operation is a lost store of core c
+abbrev pub is_lost_by : ℕ → Op → Bool
+is_lost_by c o = of_core c o && is_lost o
+
+-- the transfer is of core c, in one of its steps
+abbrev pub is_in_steps : ℕ → ℕ → Transfer → Bool
+is_in_steps c steps t = t.master == c && nat_lt t.step steps
+
+-- each printed register that is told is that of the current window
+abbrev pub ShowsRegisters : State → List (Option ℕ) → Type 0
+ShowsRegisters s regs = (n : ℕ) → n < 32 → IfSome (slice_get regs n) (λ told. IfSome told (λ value. value ≡ register s n))
+
+-- the result of core c shows the state that the core's run has after its instructions
+pub record Shows (setup : Setup) (trace : Trace) (c : ℕ) (r : CoreResult) (s : State) : Type 0 where
+  pub out : r.out ≡ s.out
+  pub psr : r.psr ≡ psr_of s.ctl
+  pub wim : r.wim ≡ s.wim
+  pub tbr : r.tbr ≡ s.ctl.tbr
+  pub y : r.y ≡ s.y
+  pub pc : r.pc ≡ s.ctl.pc
+  pub npc : r.npc ≡ s.ctl.npc
+  pub registers : ShowsRegisters s r.regs
+  pub halt : s.halt ≡ halt_of r.end
+  pub ends : IsEnd setup c s r.steps r.end
+  pub within : r.steps ≤ setup.config.steps
+  pub bound : r.steps ≤ r.n + count_by (is_in_steps c r.steps) trace.transfers + idle_steps r.end
+  pub lost : 0 < count_by (is_lost_by c) trace.order → LosesStores r.end
+
+-- Result, of core c: its result shows the state after its n instructions; that its run comes so far is Thread's
+abbrev pub ResultAt : Setup → Trace → ℕ → Type 0
+ResultAt setup trace c = IfSome (slice_get trace.cores c) (λ r.
+    IfSome (run_of_core setup trace c r.n) (λ q. Shows setup trace c r q.state))
+
+-- the byte of memory at the end: that of the last store or atomic in the order, lost stores aside
+abbrev pub final_byte : Setup → Trace → ℕ → ℕ
+final_byte setup trace a = stored a (filter enters trace.order) (initial_byte setup.image a)
+
+-- Result, of a watched word: if it is told, it is the word of memory at the end
+abbrev pub ShowsWord : Setup → Trace → Word2 → Type 0
+ShowsWord setup trace word = IfSome word.value (λ value. value ≡ number_at (final_byte setup trace) word.addr 4)
+
+abbrev pub ResultAtFinal : Setup → Trace → ℕ → Type 0
+ResultAtFinal setup trace i = IfSome (slice_get trace.watch i) (ShowsWord setup trace)
+
+-- the results of the trace are those of its execution
+pub record HasResults (setup : Setup) (trace : Trace) : Type 0 where
+  pub cores : FailsNowhere setup.config.cores (ResultAt setup trace)
+  pub final : FailsNowhere (length trace.watch) (ResultAtFinal setup trace)
