@@ -164,11 +164,14 @@ abbrev pub load_word : Site → ℕ → ℕ → Src → State → Effect
 load_word site rd rs1 src s = let addr = sum_of_operands s rs1 src in
     unless_trap (load_traps site addr 4) s (load_effect (operands rs1 src) addr 4 rd s)
 
+-- a word goes to the output, or to an address in RAM
+abbrev pub put_word : Site → List ℕ → ℕ → ℕ → State → Effect
+put_word site registers addr value s = if addr == output_word then output_effect registers value s
+    else unless_trap (store_traps site addr 4) s (store_effect registers addr 4 value s)
+
 -- ST
 abbrev pub store_word : Site → ℕ → ℕ → Src → State → Effect
-store_word site rd rs1 src s = let addr = sum_of_operands s rs1 src in let registers = operands rs1 src ++ rd ∷ [] in
-    if addr == output_word then output_effect registers (register s rd) s
-    else unless_trap (store_traps site addr 4) s (store_effect registers addr 4 (register s rd) s)
+store_word site rd rs1 src s = put_word site (operands rs1 src ++ rd ∷ []) (sum_of_operands s rs1 src) (register s rd) s
 
 -- loads and stores, where they are built
 abbrev pub memory : Site → MemName → ℕ → ℕ → Src → State → Option Effect

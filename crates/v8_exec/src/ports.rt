@@ -1,0 +1,77 @@
+ghost use Rattle.std.specs.Prelude.{◌≡◌, ◌≢◌, ℕ, ◌+◌, ◌*◌, ◌^◌, ◌<◌, ◌≤◌, ◌++◌, ◌∷◌, [], slice_set, is_ok, is_err};
+ghost use Rattle.lf_model.specs.Start.{is_in_ram, touches_text};
+ghost use Rattle.lf_model.specs.Step.{reading, after_look, after_store};
+ghost use Rattle.v8_exec.specs.Reading.{FitsLook};
+
+use lf_model::step::{Full, Look, RegBad};
+
+/// The parts of a core that an instruction works on: its register cells, data cache, store buffer and output,
+/// and what its addresses mean. None of these calls takes memory.
+pub trait Ports {
+    ghost use Rattle.std.specs.Prelude.{ℕ};
+    ghost use Rattle.lf_model.specs.Step.{Seen, Parts};
+
+    /// What the core shows an instruction.
+    ghost seen: { Self → Seen };
+
+    /// What the parts answer.
+    ghost parts: { Self → Parts };
+
+    /// How many more operations and bytes of output can be recorded.
+    ghost room: { Self → ℕ };
+
+    /// Reads a register cell. One that reads bad is answered with its syndrome.
+    fn reg(&mut self, cell: usize) -> Result<u32, RegBad>
+        requires { cell < 136 }
+        ensures answer { result ≡ reading (parts self.old) (seen self.old).cells cell }
+        ensures seen { seen self.new ≡ seen self.old }
+        ensures parts { parts self.new ≡ parts self.old }
+        ensures room { room self.old ≤ room self.new };
+
+    /// Writes a register cell, which then reads well.
+    fn set_reg(&mut self, cell: usize, v: u32)
+        requires { cell < 136 }
+        ensures seen { seen self.new ≡ record (seen self.old) { cells = slice_set (seen self.old).cells cell v } }
+        ensures written { (parts self.new).bad cell ≡ None }
+        ensures others { (c : ℕ) → c ≢ cell → (parts self.new).bad c ≡ (parts self.old).bad c }
+        ensures room { room self.old ≤ room self.new };
+
+    /// Looks an address up in the data cache. A hit is a load, and is recorded.
+    fn load(&mut self, addr: u32, len: u8) -> Look
+        requires { 0 < room self.old }
+        ensures answer { result ≡ (parts self.old).look addr len }
+        ensures fits { FitsLook len result }
+        ensures seen { seen self.new ≡ after_look addr len result (seen self.old) }
+        ensures room { room self.old ≤ room self.new + 1 };
+
+    /// Puts a store into the store buffer and records it, unless the buffer is full.
+    fn store(&mut self, addr: u32, len: u8, value: u64) -> Result<(), Full>
+        requires room { 0 < room self.old }
+        requires value { value < 2 ^ (8 * len) }
+        ensures full { is_err result ≡ (parts self.old).full }
+        ensures seen { seen self.new ≡ after_store addr len value (is_ok result) (seen self.old) }
+        ensures room { room self.old ≤ room self.new + 1 };
+
+    /// A store waits in the store buffer.
+    fn waiting(&self) -> bool
+        ensures { result ≡ (parts self.now).waiting };
+
+    /// One of these bytes is a text byte.
+    fn is_text(&self, addr: u32, len: u8) -> bool
+        ensures { result ≡ touches_text (seen self.now).site.text addr len };
+
+    /// All these bytes are in RAM.
+    fn in_ram(&self, addr: u32, len: u8) -> bool
+        ensures { result ≡ is_in_ram (seen self.now).site.ram addr len };
+
+    /// Appends a byte to the core's output.
+    fn out(&mut self, byte: u8)
+        requires { 0 < room self.old }
+        ensures seen { seen self.new ≡ record (seen self.old) { out = (seen self.old).out ++ byte ∷ [] } }
+        ensures room { room self.old ≤ room self.new + 1 };
+
+    /// Empties both caches.
+    fn flush(&mut self)
+        ensures seen { seen self.new ≡ seen self.old }
+        ensures room { room self.old ≤ room self.new };
+}
