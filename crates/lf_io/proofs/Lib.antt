@@ -1,0 +1,4 @@
+pub mod Taking
+pub mod Reading
+pub mod Storing
+pub mod Counts

@@ -1,0 +1,35 @@
+-- What the answers of `read_whole` say of a file, whose bytes are `told` where its object tells them.
+use Rattle.std.specs.Prelude.{◌≡◌, ℕ, ◌+◌, ◌<◌, ◌≤◌, List, length, take, Option, IfSome}
+use Rattle.lf_io.specs.Count.{Rose}
+use Rattle.lf_io.specs.declared.read.ReadErr.{ReadErr}
+use Rattle.lf_io.specs.declared.read.ReadErr.TheVariants.{Fault, TooLong, Memory}
+
+-- the file was read whole, and is within the limit
+pub record IsWhole (told : Option (List ℕ)) (limit : ℕ) (bytes : List ℕ) : Type 0 where
+  pub within : length bytes ≤ limit
+  pub whole : IfSome told (λ file. bytes ≡ file)
+
+-- the file is longer than the limit, and has at least one byte more
+pub record IsTooLong (told : Option (List ℕ)) (limit least : ℕ) : Type 0 where
+  pub one_more : least ≡ limit + 1
+  pub longer : IfSome told (λ file. limit < length file)
+
+-- each error comes only with its cause: a fault with a count that rose, from `before` to `after`
+abbrev pub HasCause : Option (List ℕ) → ℕ → ℕ → ℕ → ReadErr → Type 0
+HasCause told limit before after Fault = Rose before after
+HasCause told limit before after (TooLong least) = IsTooLong told limit least
+HasCause told limit before after Memory = Unit {0}
+
+-- one read gives no length: it fails or lacks memory
+abbrev pub HasReadCause : ℕ → ℕ → ReadErr → Type 0
+HasReadCause before after Fault = Rose before after
+HasReadCause before after (TooLong least) = ⊥
+HasReadCause before after Memory = Unit {0}
+
+-- the bytes are the first ones of the file
+abbrev pub IsStart : Option (List ℕ) → List ℕ → Type 0
+IsStart told bytes = IfSome told (λ file. bytes ≡ take (length bytes) file)
+
+-- the file has no byte from a place on
+abbrev pub EndsBy : Option (List ℕ) → ℕ → Type 0
+EndsBy told place = IfSome told (λ file. length file ≤ place)
