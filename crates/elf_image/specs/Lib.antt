@@ -1,0 +1,4 @@
+pub mod Written
+pub mod FirstForm
+pub mod Layout
+pub mod Answer
