@@ -5,7 +5,7 @@ use Rattle.std.specs.Prelude.{ℕ, ◌+◌, ◌*◌, ◌/◌, ◌%◌, ◌^◌, 
 use Rattle.lf_num.specs.Arithmetic.{word_sum, word_difference}
 use Rattle.lf_model.specs.Start.{output_word, is_in_ram, touches_text}
 use Rattle.lf_model.specs.State.{State, cell, register, operand, with_register, advanced}
-use Rattle.lf_model.specs.declared.image.Range.{Range}
+use Rattle.lf_model.specs.declared.image.Image.{Image}
 use Rattle.lf_model.specs.declared.bus.Why.{Why}
 use Rattle.lf_model.specs.declared.bus.OpKind.{OpKind}
 use Rattle.lf_model.specs.declared.bus.OpKind.TheVariants.{Load, Store}
@@ -18,10 +18,10 @@ use Rattle.lf_model.specs.declared.instruction.Src.TheVariants.{Reg, Imm}
 use Rattle.lf_model.specs.declared.instruction.Instr.{Instr}
 use Rattle.lf_model.specs.declared.instruction.Instr.TheVariants.{Sethi, Calc, Ticc, Mem}
 
--- where an instruction runs: the core's number, the ranges of text, and how many bytes RAM has
+-- where an instruction runs: the core's number, the image, and how many bytes RAM has
 pub record Site : Type 0 where
   pub core : ℕ
-  pub text : List Range
+  pub image : Image
   pub ram : ℕ
 
 -- a memory operation that an instruction asks for: a load, a store or an atomic, its address and length in bytes,
@@ -157,7 +157,7 @@ load_traps site addr len = first_trap ((not (addr % len == 0), 0x07) ∷ (not (i
 -- text is write-protected
 abbrev pub store_traps : Site → ℕ → ℕ → Option ℕ
 store_traps site addr len = first_trap ((not (addr % len == 0), 0x07)
-    ∷ (touches_text site.text addr len || not (is_in_ram site.ram addr len), 0x09) ∷ [])
+    ∷ (touches_text site.image.text addr len || not (is_in_ram site.ram addr len), 0x09) ∷ [])
 
 -- LD
 abbrev pub load_word : Site → ℕ → ℕ → Src → State → Effect

@@ -57,21 +57,24 @@ is_lost o = kind_is_lost o.kind
 abbrev pub of_core : ℕ → Op → Bool
 of_core c o = o.core == c
 
+-- an operation as the program made it, with what it read
+abbrev pub made : Op → Entry
+made o = record { got = o.got; put = o.put; core = o.core; k = o.k; addr = o.addr; kind = kind_made o.kind; len = o.len }
+
+abbrev pub entry_reads : Entry → Bool
+entry_reads e = kind_reads e.kind
+
 -- it touches the byte at this address
-abbrev pub touches : ℕ → Op → Bool
-touches a o = nat_le o.addr a && nat_lt a (o.addr + o.len)
+abbrev pub touches : ℕ → Entry → Bool
+touches a e = nat_le e.addr a && nat_lt a (e.addr + e.len)
 
 -- byte i of a big-endian number of this many bytes
 abbrev pub byte_of : ℕ → ℕ → ℕ → ℕ
 byte_of value len i = value / 256 ^ (len - 1 - i) % 256
 
 -- the byte that it reads at this address, and the one that it stores there
-abbrev pub byte_got : ℕ → Op → ℕ
-byte_got a o = byte_of o.got o.len (a - o.addr)
+abbrev pub byte_got : ℕ → Entry → ℕ
+byte_got a e = byte_of e.got e.len (a - e.addr)
 
-abbrev pub byte_put : ℕ → Op → ℕ
-byte_put a o = byte_of o.put o.len (a - o.addr)
-
--- an operation as the program made it, with what it read
-abbrev pub made : Op → Entry
-made o = record { got = o.got; put = o.put; core = o.core; k = o.k; addr = o.addr; kind = kind_made o.kind; len = o.len }
+abbrev pub byte_put : ℕ → Entry → ℕ
+byte_put a e = byte_of e.put e.len (a - e.addr)

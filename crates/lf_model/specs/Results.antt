@@ -1,8 +1,8 @@
 -- The rule Result: what the trace tells of each core and each watched word is that of the execution.
-use Rattle.std.specs.Prelude.{ℕ, ◌≡◌, ◌≢◌, ◌≤◌, ◌<◌, ◌+◌, ◌==◌, ◌&&◌, Bool, true, ⊤, List, length, filter, count_by, slice_get, Option, Some, None, IfSome, nat_lt, if◌then◌else◌}
+use Rattle.std.specs.Prelude.{ℕ, ◌≡◌, ◌≢◌, ◌≤◌, ◌<◌, ◌+◌, ◌==◌, ◌&&◌, Bool, true, ⊤, List, length, map, filter, count_by, slice_get, Option, Some, None, IfSome, nat_lt, if◌then◌else◌}
 use Rattle.lf_model.specs.Start.{initial_byte, number_at}
 use Rattle.lf_model.specs.State.{State, register, psr_of}
-use Rattle.lf_model.specs.Operation.{of_core, enters, is_lost}
+use Rattle.lf_model.specs.Operation.{of_core, enters, made, is_lost}
 use Rattle.lf_model.specs.Run.{Run, effect_at_pc}
 use Rattle.lf_model.specs.Places.{FailsNowhere}
 use Rattle.lf_model.specs.Value.{stored}
@@ -80,7 +80,7 @@ ResultAt setup trace c = IfSome (slice_get trace.cores c) (λ r.
 
 -- the byte of memory at the end: that of the last store or atomic in the order, lost stores aside
 abbrev pub final_byte : Setup → Trace → ℕ → ℕ
-final_byte setup trace a = stored a (filter enters trace.order) (initial_byte setup.image a)
+final_byte setup trace a = stored a (map made (filter enters trace.order)) (initial_byte setup.image a)
 
 -- Result, of a watched word: if it is told, it is the word of memory at the end
 abbrev pub ShowsWord : Setup → Trace → Word2 → Type 0

@@ -5,7 +5,7 @@ use Rattle.std.specs.Prelude.{ℕ, zero, suc, ◌+◌, ◌∷◌, ◌++◌, [], 
 use Rattle.lf_model.specs.Start.{is_text_word, word_at}
 use Rattle.lf_model.specs.Opcodes.{instruction}
 use Rattle.lf_model.specs.State.{State, reset}
-use Rattle.lf_model.specs.Operation.{kind_reads}
+use Rattle.lf_model.specs.Operation.{kind_reads, entry_reads}
 use Rattle.lf_model.specs.Effect.{Site, Access, Effect, effect, fetch_trap}
 use Rattle.lf_model.specs.declared.bus.Entry.{Entry}
 use Rattle.lf_model.specs.declared.setup.Setup.{Setup}
@@ -28,9 +28,6 @@ with_access core got (Some a) ops = ops ++ operation core (length ops) got a ∷
 abbrev pub performed : ℕ → ℕ → Effect → Run → Run
 performed core got e r = record { state = e.next got; ops = with_access core got e.access r.ops }
 
-abbrev pub entry_reads : Entry → Bool
-entry_reads o = kind_reads o.kind
-
 -- how many numbers were read so far
 abbrev pub reads_of : List Entry → ℕ
 reads_of ops = count_by entry_reads ops
@@ -41,7 +38,7 @@ answer_to answers ops None = 0
 answer_to answers ops (Some a) = if kind_reads a.kind then slice_index answers (reads_of ops) else 0
 
 abbrev pub site_of : Setup → ℕ → Site
-site_of setup core = record { core = core; text = setup.image.text; ram = setup.config.ram }
+site_of setup core = record { core = core; image = setup.image; ram = setup.config.ram }
 
 -- the effect of the instruction at PC, None where it is not built; a PC that is no text word traps
 unfoldable pub effect_at_pc : Setup → ℕ → State → Option Effect

@@ -1,3 +1,6 @@
+ghost use Rattle.std.specs.Prelude.{◌≡◌, ◌<◌, ◌*◌, ◌^◌};
+ghost use Rattle.lf_model.specs.State.{psr_of};
+
 /// The control state of a core (SPARC V8, chapter 4, control and status registers): the parts of PSR that
 /// instructions change, TBR, PC and nPC.
 #[derive(Clone, Copy, Debug)]
@@ -18,6 +21,24 @@ pub struct Ctl {
     pub tbr: u32,
     pub pc: u32,
     pub npc: u32,
+}
+
+impl Ctl {
+    /// The processor state register: impl F and ver 3, then icc, PIL, S, PS, ET and CWP, with EC and EF 0.
+    pub fn psr(&self) -> u32
+        requires icc { self.now.icc < 16 }
+        requires pil { self.now.pil < 16 }
+        requires cwp { self.now.cwp < 8 }
+        ensures { result ≡ psr_of self.now }
+    {
+        0xf300_0000
+            + ((self.icc as u32) << 20)
+            + ((self.pil as u32) << 8)
+            + ((self.s as u32) << 7)
+            + ((self.ps as u32) << 6)
+            + ((self.et as u32) << 5)
+            + self.cwp as u32
+    }
 }
 
 /// What a core keeps beside its registers, caches and waiting stores.

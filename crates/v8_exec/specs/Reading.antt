@@ -1,7 +1,8 @@
 -- What reading registers through the ports answers: the values, or the first register that reads bad.
-use Rattle.std.specs.Prelude.{ℕ, ◌≡◌, ◌<◌, ◌*◌, ◌^◌, ⊤, ◌++◌, ◌∷◌, [], List, Option, Some, None, Result, Ok, Err}
+use Rattle.std.specs.Prelude.{ℕ, ◌≡◌, ◌<◌, ◌≤◌, ◌%◌, true, ◌*◌, ◌^◌, ⊤, ◌++◌, ◌∷◌, [], List, Option, Some, None, Result, Ok, Err}
 use Rattle.lf_model.specs.State.{State, register, operand}
-use Rattle.lf_model.specs.Effect.{operands}
+use Rattle.lf_model.specs.Start.{is_in_ram}
+use Rattle.lf_model.specs.Effect.{Site, operands}
 use Rattle.lf_model.specs.Step.{Parts, bad_register, first_bad}
 use Rattle.lf_model.specs.declared.instruction.Src.{Src}
 use Rattle.lf_model.specs.declared.instruction.Src.TheVariants.{Reg, Imm}
@@ -49,3 +50,9 @@ ReadsStored parts s rd rs1 src (Err bad) = first_bad parts s.ctl.cwp (operands r
 abbrev pub FitsLook : ℕ → Look → Type 0
 FitsLook len (Hit value way) = value < 2 ^ (8 * len)
 FitsLook len (Miss why) = ⊤
+
+-- an access to RAM: at most eight bytes, at a multiple of their number, all of them in RAM
+pub record IsAccess (site : Site) (addr len : ℕ) : Type 0 where
+  pub short : len ≤ 8
+  pub aligned : addr % len ≡ 0
+  pub within : is_in_ram site.ram addr len ≡ true

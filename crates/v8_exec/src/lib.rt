@@ -15,4 +15,5 @@ mod trap;
 pub use execute::{exec, fetch_trap};
 pub use lf_model::control::{Arch, Ctl};
 pub use lf_model::step::{Did, Turn};
+pub use operands::cell;
 pub use ports::Ports;

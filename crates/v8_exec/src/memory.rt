@@ -1,8 +1,8 @@
-ghost use Rattle.std.specs.Prelude.{◌≡◌, ◌<◌, ◌+◌, ◌^◌, ℕ, List, Some, None};
+ghost use Rattle.std.specs.Prelude.{◌≡◌, ◌<◌, ◌≤◌, ◌+◌, ◌^◌, ℕ, List, Some, None};
 ghost use Rattle.lf_model.specs.Effect.{load_traps, store_traps, store_effect, unless_trap, put_word, load_word, store_word};
 ghost use Rattle.lf_model.specs.Step.{IsSound, state_of, run_seen, first_bad, Does};
 ghost use Rattle.v8_exec.specs.Frame.{Keeps};
-ghost use Rattle.v8_exec.specs.Reading.{IsSource};
+ghost use Rattle.v8_exec.specs.Reading.{IsSource, IsAccess};
 
 use crate::calculate::advance;
 use crate::operands::{read_operands, read_stored, write_register};
@@ -22,8 +22,9 @@ const DATA_ACCESS: u8 = 0x09;
 
 /// The trap of a load of `len` bytes from this address, which is to be a multiple of `len`, and wholly in RAM.
 fn load_trap<P: Ports>(addr: u32, len: u8, p: &P) -> Option<u8>
-    requires { 0 < len }
-    ensures { result ≡ load_traps (P.seen p.now).site addr len }
+    requires size { (0 < len) × (len ≤ 8) }
+    ensures trap { result ≡ load_traps (P.seen p.now).site addr len }
+    ensures none { result ≡ None → IsAccess (P.seen p.now).site addr len }
 {
     if addr % u32::from(len) != 0 {
         Some(NOT_ALIGNED)
@@ -36,8 +37,9 @@ fn load_trap<P: Ports>(addr: u32, len: u8, p: &P) -> Option<u8>
 
 /// The trap of a store of `len` bytes to this address, which may not touch text either.
 fn store_trap<P: Ports>(addr: u32, len: u8, p: &P) -> Option<u8>
-    requires { 0 < len }
-    ensures { result ≡ store_traps (P.seen p.now).site addr len }
+    requires size { (0 < len) × (len ≤ 8) }
+    ensures trap { result ≡ store_traps (P.seen p.now).site addr len }
+    ensures none { result ≡ None → IsAccess (P.seen p.now).site addr len }
 {
     if addr % u32::from(len) != 0 {
         Some(NOT_ALIGNED)

@@ -1,7 +1,7 @@
 ghost use Rattle.std.specs.Prelude.{◌≡◌, ◌≢◌, ℕ, ◌+◌, ◌*◌, ◌^◌, ◌<◌, ◌≤◌, ◌++◌, ◌∷◌, [], slice_set, is_ok, is_err};
 ghost use Rattle.lf_model.specs.Start.{is_in_ram, touches_text};
 ghost use Rattle.lf_model.specs.Step.{reading, after_look, after_store};
-ghost use Rattle.v8_exec.specs.Reading.{FitsLook};
+ghost use Rattle.v8_exec.specs.Reading.{FitsLook, IsAccess};
 
 use lf_model::step::{Full, Look, RegBad};
 
@@ -38,7 +38,8 @@ pub trait Ports {
 
     /// Looks an address up in the data cache. A hit is a load, and is recorded.
     fn load(&mut self, addr: u32, len: u8) -> Look
-        requires { 0 < room self.old }
+        requires access { IsAccess (seen self.old).site addr len }
+        requires room { 0 < room self.old }
         ensures answer { result ≡ (parts self.old).look addr len }
         ensures fits { FitsLook len result }
         ensures seen { seen self.new ≡ after_look addr len result (seen self.old) }
@@ -46,6 +47,7 @@ pub trait Ports {
 
     /// Puts a store into the store buffer and records it, unless the buffer is full.
     fn store(&mut self, addr: u32, len: u8, value: u64) -> Result<(), Full>
+        requires access { IsAccess (seen self.old).site addr len }
         requires room { 0 < room self.old }
         requires value { value < 2 ^ (8 * len) }
         ensures full { is_err result ≡ (parts self.old).full }
@@ -58,7 +60,7 @@ pub trait Ports {
 
     /// One of these bytes is a text byte.
     fn is_text(&self, addr: u32, len: u8) -> bool
-        ensures { result ≡ touches_text (seen self.now).site.text addr len };
+        ensures { result ≡ touches_text (seen self.now).site.image.text addr len };
 
     /// All these bytes are in RAM.
     fn in_ram(&self, addr: u32, len: u8) -> bool
