@@ -1,3 +1,4 @@
 pub mod Sums
 pub mod SignLemmas
 pub mod ToggleLemmas
+pub mod StepLemmas

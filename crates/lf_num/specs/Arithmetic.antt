@@ -1,6 +1,6 @@
 -- The values that the arithmetic instructions of SPARC V8 give, and their condition codes.
 -- Words are numbers below 2 ^ 32; a carry is 0 or 1.
-use Rattle.std.specs.Prelude.{ℕ, ◌+◌, ◌-◌, ◌*◌, ◌/◌, ◌%◌, ◌^◌, ◌==◌, Bool, true, false, not, ◌&&◌, ◌||◌, if◌then◌else◌, nat_lt, nat_le, min, ℤ, pos, negsuc, ◌*ℤ◌, int_div, bit_and, bit_or, bit_xor}
+use Rattle.std.specs.Prelude.{ℕ, zero, suc, ◌≡◌, ◌+◌, ◌-◌, ◌*◌, ◌/◌, ◌%◌, ◌^◌, ◌==◌, Bool, true, false, not, IsTrue, ◌&&◌, ◌||◌, if◌then◌else◌, nat_lt, nat_le, min, ℤ, pos, negsuc, ◌+ℤ◌, ◌-ℤ◌, ◌*ℤ◌, int_div, bit_and, bit_or, bit_xor}
 use Rattle.std.specs.Int.{bit_at, bit_not, from_bool, cast_signed, cast_unsigned, saturate_signed, w32, w64}
 use Rattle.lf_num.specs.Bits.{sign_extended}
 
@@ -139,6 +139,38 @@ step_addend b y = if y % 2 == 1 then b else 0
 abbrev pub step_y : ℕ → ℕ → ℕ
 step_y a y = a % 2 * 2 ^ 31 + y / 2
 
+-- what MULScc reads of a product in the making, and writes anew: its first operand or result, icc and Y
+pub record Steps : Type 0 where
+  pub value : ℕ
+  pub icc : ℕ
+  pub y : ℕ
+
+-- after one MULScc with b
+abbrev pub stepped : ℕ → Steps → Steps
+stepped b s = record {
+  value = word_sum (step_augend s.value s.icc) (step_addend b s.y) 0;
+  icc = sum_icc (step_augend s.value s.icc) (step_addend b s.y) 0;
+  y = step_y s.value s.y;
+}
+
+-- after n of them
+unfoldable pub stepped_times : ℕ → ℕ → Steps → Steps
+stepped_times zero b s = s
+stepped_times (suc n) b s = stepped b (stepped_times n b s)
+
+-- a whole product: 32 steps with b from the value 0, and one with 0, which adds nothing and shifts
+abbrev pub product_by_steps : ℕ → ℕ → ℕ → Steps
+product_by_steps y b icc = stepped 0 (stepped_times 32 b (record { value = 0; icc = icc; y = y }))
+
+-- Y as it was at first, unsigned, times b, signed, as a two's complement number of 64 bits
+abbrev pub mixed_product : ℕ → ℕ → ℕ
+mixed_product y b = cast_unsigned w64 (pos y *ℤ cast_signed w32 b)
+
+-- the law of MULScc: from N = V = 0 these steps leave the product's high word as the value, and its low word in Y
+abbrev pub StepsMultiply : ℕ → ℕ → Type 0
+StepsMultiply y b = (icc : ℕ) → bit_at icc 3 ≡ 0 → bit_at icc 1 ≡ 0 →
+    (product_by_steps y b icc).value * 2 ^ 32 + (product_by_steps y b icc).y ≡ mixed_product y b
+
 -- ---- tagged sums and differences: TADDcc and TSUBcc
 
 -- an operand has a tag, its two low bits, other than 0
@@ -152,3 +184,24 @@ tagged_sum_icc a b = icc_of (word_sum a b 0) (sum_overflows a b 0 || has_tag a b
 -- icc of TSUBcc: as of SUBcc, and V also where an operand has a tag
 abbrev pub tagged_difference_icc : ℕ → ℕ → ℕ
 tagged_difference_icc a b = icc_of (word_difference a b 0) (difference_overflows a b 0 || has_tag a b) (difference_borrows a b 0)
+
+-- ---- laws: what V tells of sums and differences of signed numbers
+
+-- a + b + carry and a - b - carry, where a and b are signed numbers, at any size
+abbrev pub signed_sum : ℕ → ℕ → ℕ → ℤ
+signed_sum a b carry = cast_signed w32 a +ℤ cast_signed w32 b +ℤ pos carry
+
+abbrev pub signed_difference : ℕ → ℕ → ℕ → ℤ
+signed_difference a b carry = cast_signed w32 a -ℤ cast_signed w32 b -ℤ pos carry
+
+-- V is 1 exactly where this number is no signed number of 32 bits
+abbrev pub OverflowTells : ℕ → ℤ → Type 0
+OverflowTells icc n = bit_at icc 1 ≡ from_bool (not (fits_signed_word n))
+
+-- where this number is a signed number of 32 bits, the word is that number
+abbrev pub IsWordOf : ℕ → ℤ → Type 0
+IsWordOf value n = IsTrue (fits_signed_word n) → cast_signed w32 value ≡ n
+
+-- V of a tagged sum or difference is 1 exactly where this number is no signed number of 32 bits, or an operand has a tag
+abbrev pub TaggedOverflowTells : ℕ → ℕ → ℕ → ℤ → Type 0
+TaggedOverflowTells a b icc n = bit_at icc 1 ≡ from_bool (not (fits_signed_word n) || has_tag a b)
