@@ -1,5 +1,5 @@
 -- The fields of an instruction word (SPARC V8, chapter 5, instruction formats).
-use Rattle.std.specs.Prelude.{ℕ, ◌+◌, ◌-◌, ◌/◌, ◌%◌, ◌^◌, ◌==◌, if◌then◌else◌}
+use Rattle.std.specs.Prelude.{ℕ, ◌+◌, ◌-◌, ◌/◌, ◌%◌, ◌^◌, ◌==◌, Bool, if◌then◌else◌}
 use Rattle.lf_model.specs.declared.instruction.Src.{Src}
 use Rattle.lf_model.specs.declared.instruction.Src.TheVariants.{Reg, Imm}
 
@@ -28,8 +28,26 @@ rs2_of w = bits_of w 4 0
 abbrev pub cond_of : ℕ → ℕ
 cond_of w = bits_of w 28 25
 
+-- the annul bit of a branch
+abbrev pub a_of : ℕ → Bool
+a_of w = bits_of w 29 29 == 1
+
+-- 0 where the second operand is register rs2
+abbrev pub i_of : ℕ → ℕ
+i_of w = bits_of w 13 13
+
+-- the address space of an alternate form
+abbrev pub asi_of : ℕ → ℕ
+asi_of w = bits_of w 12 5
+
 abbrev pub imm22_of : ℕ → ℕ
 imm22_of w = bits_of w 21 0
+
+abbrev pub disp22_of : ℕ → ℕ
+disp22_of w = bits_of w 21 0
+
+abbrev pub disp30_of : ℕ → ℕ
+disp30_of w = bits_of w 29 0
 
 abbrev pub simm13_of : ℕ → ℕ
 simm13_of w = bits_of w 12 0

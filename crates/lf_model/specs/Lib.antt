@@ -1,5 +1,6 @@
 pub mod Start
 pub mod Fields
+pub mod Instructions
 pub mod Opcodes
 pub mod State
 pub mod Operation
