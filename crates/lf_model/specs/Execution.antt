@@ -1,6 +1,6 @@
 -- A total-store-order execution of the image's code: the rules Once, LoadOp, StoreStore, Thread and Value fail
 -- nowhere. But for the counts of Once, nothing in it speaks of caches, store buffers, check bits, flips or a bus.
-use Rattle.std.specs.Prelude.{ℕ, ◌≡◌, ◌≤◌, List, [], ◌∷◌, ◌++◌, length, map, filter, count_by, slice_get, Option, Some, None, IfSome, IsSomeAnd, find}
+use Rattle.std.specs.Prelude.{ℕ, ◌≡◌, ◌≤◌, List, length, map, filter, count_by, slice_get, Option, IfSome, IsSomeAnd, find}
 use Rattle.std.specs.List.{filter_map, range_with_len}
 use Rattle.lf_model.specs.Start.{initial_byte}
 use Rattle.lf_model.specs.Operation.{of_core, reads, made}

@@ -1,7 +1,7 @@
 -- Total store order: the rules LoadOp and StoreStore about the places of a core's operations
 -- (after SPARC V8, appendix K, formal specification of the memory model), over one order that holds loads and
 -- stores. Atomicity is that an atomic is one operation.
-use Rattle.std.specs.Prelude.{ℕ, ◌≡◌, ◌≤◌, List, true}
+use Rattle.std.specs.Prelude.{◌≡◌, ◌≤◌, List, true}
 use Rattle.std.specs.List.{AllByRecursion}
 use Rattle.lf_model.specs.Operation.{reads, stores}
 use Rattle.lf_model.specs.declared.trace.Op.{Op}

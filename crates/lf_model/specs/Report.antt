@@ -1,5 +1,5 @@
 -- The report of a trace: its bytes, a definition for each kind of line and one for the whole.
-use Rattle.std.specs.Prelude.{ℕ, ◌+◌, ◌-◌, ◌*◌, ◌/◌, ◌^◌, ◌∷◌, ◌++◌, [], List, length, take, drop, codes, Option, Some, None, Bool, true, false, if◌then◌else◌}
+use Rattle.std.specs.Prelude.{ℕ, ◌+◌, ◌*◌, ◌∷◌, ◌++◌, [], List, length, take, drop, codes, Option, Some, None}
 use Rattle.std.specs.List.{flat_map}
 use Rattle.lf_model.specs.Texts.{space, line_feed, number, hex, hex_field}
 use Rattle.lf_model.specs.declared.bus.OpKind.{OpKind}

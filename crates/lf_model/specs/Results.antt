@@ -1,9 +1,9 @@
 -- The rule Result: what the trace tells of each core and each watched word is that of the execution.
-use Rattle.std.specs.Prelude.{ℕ, ◌≡◌, ◌≢◌, ◌≤◌, ◌<◌, ◌+◌, ◌==◌, ◌&&◌, Bool, true, ⊤, List, length, map, filter, count_by, slice_get, Option, Some, None, IfSome, nat_lt, if◌then◌else◌}
+use Rattle.std.specs.Prelude.{ℕ, ◌≡◌, ◌≤◌, ◌<◌, ◌+◌, ◌==◌, ◌&&◌, Bool, ⊤, List, length, map, filter, count_by, slice_get, Option, Some, None, IfSome, nat_lt, if◌then◌else◌}
 use Rattle.lf_model.specs.Start.{initial_byte, number_at}
 use Rattle.lf_model.specs.State.{State, register, psr_of}
 use Rattle.lf_model.specs.Operation.{of_core, enters, made, is_lost}
-use Rattle.lf_model.specs.Run.{Run, effect_at_pc}
+use Rattle.lf_model.specs.Run.{effect_at_pc}
 use Rattle.lf_model.specs.Places.{FailsNowhere}
 use Rattle.lf_model.specs.Value.{stored}
 use Rattle.lf_model.specs.Execution.{run_of_core}

@@ -1,7 +1,7 @@
 -- The run of one core: n instructions from reset, each the image's word at PC, with the numbers that its
 -- loads and atomics read given as answers. Text is write-protected, so the word at PC is the image's. There is no
 -- cache, no store buffer and no bus in it.
-use Rattle.std.specs.Prelude.{ℕ, zero, suc, ◌+◌, ◌∷◌, ◌++◌, [], Bool, false, List, length, Option, Some, None, option_map, option_and_then, is_some, if◌then◌else◌, slice_index, count_by}
+use Rattle.std.specs.Prelude.{ℕ, zero, suc, ◌∷◌, ◌++◌, [], List, length, Option, Some, None, option_map, option_and_then, is_some, if◌then◌else◌, slice_index, count_by}
 use Rattle.lf_model.specs.Start.{is_text_word, word_at}
 use Rattle.lf_model.specs.Opcodes.{instruction}
 use Rattle.lf_model.specs.State.{State, reset}

@@ -17,4 +17,6 @@ pub mod listed;
 pub mod record;
 pub mod setup;
 pub mod step;
+#[cfg(test)]
+mod tests;
 pub mod trace;
