@@ -1,5 +1,5 @@
 -- ST: its operands and its number as they were read are those of its effect.
-use Rattle.std.proofs.Common.{◌≡◌, ℕ, ◌+◌, ◌%◌, ◌^◌, List, [], ◌∷◌, ◌++◌, Option, Some, None, Ok, subst, sym, ap, ◌∙◌, arith}
+use Rattle.std.proofs.Common.{◌≡◌, ℕ, ◌+◌, ◌%◌, ◌^◌, List, [], ◌∷◌, ◌++◌, Some, None, Ok, subst, ◌∙◌, arith}
 use Rattle.lf_model.specs.State.{State, register, operand}
 use Rattle.lf_model.specs.Effect.{operands, sum_of_operands, put_word, store_word}
 use Rattle.lf_model.specs.Run.{Run}

@@ -1,5 +1,5 @@
 -- What reading registers through the ports answers: the values, or the first register that reads bad.
-use Rattle.std.specs.Prelude.{ℕ, ◌≡◌, ◌<◌, ◌≤◌, ◌%◌, true, ◌*◌, ◌^◌, ⊤, ◌++◌, ◌∷◌, [], List, Option, Some, None, Result, Ok, Err}
+use Rattle.std.specs.Prelude.{ℕ, ◌≡◌, ◌<◌, ◌≤◌, ◌%◌, true, ◌*◌, ◌^◌, ⊤, ◌++◌, ◌∷◌, [], Some, None, Result, Ok, Err}
 use Rattle.lf_model.specs.State.{State, register, operand}
 use Rattle.lf_model.specs.Start.{is_in_ram}
 use Rattle.lf_model.specs.Effect.{Site, operands}
