@@ -1,0 +1,11 @@
+mod OneCore
+mod PlainStep
+mod RunLemmas
+mod RamLemmas
+mod StepLemmas
+mod OrderLemmas
+mod PlayLemmas
+mod ReportDigits
+mod ReportLists
+mod PlayedLemmas
+mod CallLemmas

@@ -1,0 +1,56 @@
+-- The lines of transfers, one written after another, and a line of words with another byte behind the last.
+use Rattle.std.proofs.Common.{◌≡◌, ℕ, ◌+◌, ◌<◌, List, [], ◌∷◌, ◌++◌, length, get_or, drop, Option, Bool, true, false, if◌then◌else◌, refl, sym, ap, ◌∙◌, append_assoc, add-one}
+use Rattle.std.proofs.Math.Seq.{drop-cons}
+use Rattle.std.proofs.lemmas.List.{append-nil}
+use Rattle.std.specs.Prelude.{slice_get}
+use Rattle.std.specs.List.{flat_map}
+use Rattle.std.specs.Option.{option_map_or}
+use Rattle.lf_model.specs.declared.bus.Transfer.{Transfer}
+use Rattle.lf_model.specs.declared.trace.CoreResult.{CoreResult}
+use Rattle.lf_model.specs.declared.trace.Op.{Op}
+use Rattle.lf_model.specs.Texts.{space, line_feed}
+use Rattle.lf_model.specs.Report.{word_field, words_text}
+use Rattle.lf_model.specs.TransferLines.{has_entry, length_of, transfer_line, lines_of}
+
+-- one more line is written
+written : (before line rest after left whole : List ℕ) → line ++ rest ≡ left → before ++ left ≡ whole → after ≡ before ++ line → after ++ rest ≡ whole
+written before line rest after left whole here e put = rw put (append_assoc before line rest ∙ ap (λ (more : List ℕ). before ++ more) here ∙ e)
+
+-- an item and those after it
+item_on : {X : Type 0} (xs : List X) (i : ℕ) (d : X) → i < length xs → get_or xs i d ∷ drop (i + 1) xs ≡ drop i xs
+item_on xs i d within = rw add-one (sym (drop-cons xs i d within))
+
+-- the line of a transfer and those after it, by whether it has an entry
+chosen : (b : Bool) (cores : List CoreResult) (entries : List Op) (t : Transfer) (ts : List Transfer)
+    → transfer_line (if b then option_map_or length_of (slice_get entries 0) 0 else 0) t ++ lines_of cores (if b then drop 1 entries else entries) ts
+    ≡ (if b then transfer_line (option_map_or length_of (slice_get entries 0) 0) t ++ lines_of cores (drop 1 entries) ts
+    else transfer_line 0 t ++ lines_of cores entries ts)
+chosen true cores entries t ts = refl
+chosen false cores entries t ts = refl
+
+pub transfers_step : (before after whole : List ℕ) (cores : List CoreResult) (entries later : List Op) (transfers : List Transfer) (i len : ℕ) (d : Transfer)
+    → i < length transfers
+    → len ≡ (if has_entry cores (get_or transfers i d) then option_map_or length_of (slice_get entries 0) 0 else 0)
+    → later ≡ (if has_entry cores (get_or transfers i d) then drop 1 entries else entries)
+    → before ++ lines_of cores entries (drop i transfers) ≡ whole → after ≡ before ++ transfer_line len (get_or transfers i d)
+    → after ++ lines_of cores later (drop (i + 1) transfers) ≡ whole
+transfers_step before after whole cores entries later transfers i len d within long left e put =
+    let t : Transfer = get_or transfers i d in
+    let ts : List Transfer = drop (i + 1) transfers in
+    let here : transfer_line len t ++ lines_of cores later ts ≡ lines_of cores entries (drop i transfers) =
+    rw (long, left) (chosen (has_entry cores t) cores entries t ts ∙ ap (lines_of cores entries) (item_on transfers i d within)) in
+    written before (transfer_line len t) (lines_of cores later ts) after (lines_of cores entries (drop i transfers)) whole here e put
+
+-- words are those before the last and the last
+pub words_last : (front : List (Option ℕ)) (last : Option ℕ)
+    → words_text (front ++ last ∷ []) ≡ flat_map (word_field space) front ++ word_field line_feed last
+words_last [] last = refl
+words_last (w ∷ []) last = rw (append-nil (word_field space w)) refl
+words_last (w ∷ v ∷ front) last =
+    ap (λ (more : List ℕ). word_field space w ++ more) (words_last (v ∷ front) last)
+    ∙ sym (append_assoc (word_field space w) (flat_map (word_field space) (v ∷ front)) (word_field line_feed last))
+
+pub words_put : (before middle after : List ℕ) (words front : List (Option ℕ)) (last : Option ℕ) → words ≡ front ++ last ∷ []
+    → middle ≡ before ++ flat_map (word_field space) front → after ≡ middle ++ word_field line_feed last → after ≡ before ++ words_text words
+words_put before middle after words front last is first second =
+    rw (second, first, is, words_last front last) (append_assoc before (flat_map (word_field space) front) (word_field line_feed last))

@@ -1,0 +1,4 @@
+pub mod Plain
+pub mod Playing
+pub mod Played
+pub mod Call
