@@ -3,10 +3,12 @@
 -- cache, no store buffer and no bus in it.
 use Rattle.std.specs.Prelude.{ℕ, zero, suc, ◌∷◌, ◌++◌, [], List, length, Option, Some, None, option_map, option_and_then, is_some, if◌then◌else◌, slice_index, count_by}
 use Rattle.lf_model.specs.Start.{is_text_word, word_at}
-use Rattle.lf_model.specs.Opcodes.{instruction}
 use Rattle.lf_model.specs.State.{State, reset}
 use Rattle.lf_model.specs.Operation.{kind_reads, entry_reads}
-use Rattle.lf_model.specs.Effect.{Site, Access, Effect, effect, fetch_trap}
+use Rattle.lf_model.specs.Effect.{Site, Access, Effect}
+use Rattle.lf_model.specs.Traps.{fetch_trap}
+use Rattle.lf_model.specs.Effects.{effect}
+use Rattle.lf_model.specs.Built.{built}
 use Rattle.lf_model.specs.declared.bus.Entry.{Entry}
 use Rattle.lf_model.specs.declared.setup.Setup.{Setup}
 
@@ -43,7 +45,7 @@ site_of setup core = record { core = core; image = setup.image; ram = setup.conf
 -- the effect of the instruction at PC, None where it is not built; a PC that is no text word traps
 unfoldable pub effect_at_pc : Setup → ℕ → State → Option Effect
 effect_at_pc setup core s = if is_text_word setup.image.text s.ctl.pc
-    then option_and_then (effect (site_of setup core) s) (instruction (word_at setup.image s.ctl.pc))
+    then option_and_then (effect (site_of setup core) s) (built (word_at setup.image s.ctl.pc))
     else Some (fetch_trap s)
 
 abbrev pub answered : ℕ → List ℕ → Run → Effect → Run
