@@ -18,6 +18,7 @@ annulled addr s = record s { ctl = record s.ctl { pc = addr; npc = (addr + 4) % 
 
 -- ---- CALL and JMPL, which keep their own address
 
+-- the target of CALL is disp30 words from PC
 abbrev pub call_target : State → ℕ → ℕ
 call_target s disp30 = (s.ctl.pc + 4 * disp30) % 2 ^ 32
 
@@ -31,12 +32,13 @@ abbrev pub jmpl_effect : List ℕ → ℕ → ℕ → Src → State → Effect
 jmpl_effect registers rd rs1 src s =
     changes registers (cell_written s rd) (transferred (sum_of_operands s rs1 src) (with_register rd s.ctl.pc s))
 
--- `mem_address_not_aligned`: the target of JMPL is no word's address
+-- the target of JMPL is no multiple of 4
 abbrev pub target_misaligned : State → ℕ → Src → Bool
 target_misaligned s rs1 src = not (sum_of_operands s rs1 src % 4 == 0)
 
 -- ---- Bicc
 
+-- the target of a branch is disp22 words from PC, by disp22 with its sign extended
 abbrev pub branch_target : State → ℕ → ℕ
 branch_target s disp22 = (s.ctl.pc + 4 * sign_extended disp22 22) % 2 ^ 32
 
@@ -48,14 +50,16 @@ taken cond a disp22 s = if a && cond == 8 then annulled (branch_target s disp22)
 abbrev pub not_taken : Bool → State → State
 not_taken a s = if a then annulled ((s.ctl.npc + 4) % 2 ^ 32) s else advanced s
 
+-- a branch is taken where its condition holds
 abbrev pub branched : ℕ → Bool → ℕ → State → State
 branched cond a disp22 s = if condition_holds cond s.ctl.icc then taken cond a disp22 s else not_taken a s
 
+-- Bicc reads and writes no register
 abbrev pub bicc_effect : List ℕ → ℕ → Bool → ℕ → State → Effect
 bicc_effect registers cond a disp22 s = changes registers [] (branched cond a disp22 s)
 
 -- ---- Ticc
 
--- `trap_instruction`: where the condition holds a software trap, 80 to FF by the low seven bits of the operands' sum
+-- where the condition holds a software trap, 80 to FF by the low seven bits of the operands' sum
 abbrev pub software_trap : State → ℕ → ℕ → Src → Option ℕ
 software_trap s cond rs1 src = when (condition_holds cond s.ctl.icc) (128 + sum_of_operands s rs1 src % 128)

@@ -85,12 +85,13 @@ y_after SMulCc a b y = high_word (product true a b)
 y_after MulScc a b y = step_y a y
 y_after _ a b y = y
 
--- `tag_overflow`: V of a TV form would be 1
+-- V of a TV form would be 1
 unfoldable pub overflows_tag : CalcName → ℕ → ℕ → Bool
 overflows_tag TAddCcTv a b = (codes_of (tagged_sum_icc a b)).v
 overflows_tag TSubCcTv a b = (codes_of (tagged_difference_icc a b)).v
 overflows_tag _ a b = false
 
+-- the divide instructions
 abbrev pub is_division : CalcName → Bool
 is_division UDiv = true
 is_division UDivCc = true
@@ -98,7 +99,7 @@ is_division SDiv = true
 is_division SDivCc = true
 is_division _ = false
 
--- `division_by_zero`
+-- a division by 0
 unfoldable pub divides_by_zero : CalcName → ℕ → Bool
 divides_by_zero name b = is_division name && b == 0
 
@@ -107,6 +108,7 @@ abbrev pub calculated : CalcName → ℕ → ℕ → ℕ → State → State
 calculated name rd a b s = with_register rd (result_of name a b s.ctl.icc s.y)
     (record s { ctl = record s.ctl { icc = icc_after name a b s.ctl.icc s.y }; y = y_after name a b s.y })
 
+-- rd gets the result, and icc and Y become as they are calculated
 abbrev pub calc_effect : List ℕ → CalcName → ℕ → ℕ → Src → State → Effect
 calc_effect registers name rd rs1 src s =
     changes registers (cell_written s rd) (advanced (calculated name rd (register s rs1) (operand s src) s))

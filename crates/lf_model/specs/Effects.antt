@@ -15,7 +15,7 @@ use Rattle.lf_model.specs.declared.instruction.Instr.TheVariants.{Illegal, AltIl
 
 -- ---- where each ordinary trap comes
 
--- `illegal_instruction`
+-- `illegal_instruction`: the word is no instruction
 abbrev pub is_illegal : Instr → Bool
 is_illegal Illegal = true
 is_illegal AltIllegal = true
@@ -33,33 +33,33 @@ is_coprocessor CpOff = true
 is_coprocessor CpQueue = true
 is_coprocessor _ = false
 
--- `mem_address_not_aligned`
+-- `mem_address_not_aligned`: the target of JMPL, or the address of a load or store, is no multiple of its size
 abbrev pub is_misaligned : State → Instr → Bool
 is_misaligned s (Jmpl rd rs1 src) = target_misaligned s rs1 src
 is_misaligned s (Mem name rd rs1 src) = access_misaligned name (sum_of_operands s rs1 src)
 is_misaligned s _ = false
 
--- `data_access_exception`
+-- `data_access_exception`: the address is none that the load or store may have
 abbrev pub is_refused : Site → State → Instr → Bool
 is_refused site s (Mem name rd rs1 src) = access_refused site name (sum_of_operands s rs1 src)
 is_refused site s _ = false
 
--- `tag_overflow`
+-- `tag_overflow`: a TV form whose V would be 1
 abbrev pub has_tag_overflow : State → Instr → Bool
 has_tag_overflow s (Calc name rd rs1 src) = overflows_tag name (register s rs1) (operand s src)
 has_tag_overflow s _ = false
 
--- `division_by_zero`
+-- `division_by_zero`: a division whose second operand is 0
 abbrev pub has_zero_divisor : State → Instr → Bool
 has_zero_divisor s (Calc name rd rs1 src) = divides_by_zero name (operand s src)
 has_zero_divisor s _ = false
 
--- `trap_instruction`
+-- `trap_instruction`: Ticc, where its condition holds
 abbrev pub trap_instruction : State → Instr → Option ℕ
 trap_instruction s (Ticc cond rs1 src) = software_trap s cond rs1 src
 trap_instruction s _ = None
 
--- the ordinary trap of an instruction: the first in this order
+-- the ordinary trap of an instruction: the first of these; `privileged_instruction`, 03, comes in user mode alone
 abbrev pub ordinary_trap : Site → State → Instr → Option ℕ
 ordinary_trap site s i = first_trap (
     when (is_privileged i && not s.ctl.s) 0x03

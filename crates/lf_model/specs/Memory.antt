@@ -12,21 +12,21 @@ use Rattle.lf_model.specs.declared.instruction.Src.{Src}
 
 -- ---- the traps of an address
 
--- `data_access_exception` of a load: it reads RAM alone
+-- where a load may not read: it reads RAM alone
 abbrev pub load_refused : Site → ℕ → ℕ → Bool
 load_refused site addr len = not (is_in_ram site.ram addr len)
 
--- `data_access_exception` of a store: it writes RAM alone, where text is write-protected
+-- where a store may not write: it writes RAM alone, where text is write-protected
 abbrev pub store_refused : Site → ℕ → ℕ → Bool
 store_refused site addr len = touches_text site.image.text addr len || not (is_in_ram site.ram addr len)
 
--- `mem_address_not_aligned`: the address is no multiple of the length in bytes
+-- the address is no multiple of the length in bytes
 abbrev pub access_misaligned : MemName → ℕ → Bool
 access_misaligned Ld addr = not (addr % 4 == 0)
 access_misaligned St addr = not (addr % 4 == 0)
 access_misaligned _ addr = false
 
--- `data_access_exception` of LD and ST; ST may write the output word, too
+-- LD or ST may not have this address; ST may write the output word, too
 abbrev pub access_refused : Site → MemName → ℕ → Bool
 access_refused site Ld addr = load_refused site addr 4
 access_refused site St addr = not (addr == output_word) && store_refused site addr 4

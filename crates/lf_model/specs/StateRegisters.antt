@@ -12,12 +12,12 @@ use Rattle.lf_model.specs.declared.instruction.StateName.TheVariants.{Y}
 abbrev pub asr_value : ℕ → ℕ → ℕ
 asr_value core number = if number == 17 then core * 2 ^ 28 + 2 ^ 8 + 7 else 0
 
--- RDY
+-- RDY: Y goes to register rd
 abbrev pub read_state_effect : List ℕ → StateName → ℕ → State → Option Effect
 read_state_effect registers Y rd s = Some (sets registers rd s.y s)
 read_state_effect registers _ rd s = None
 
--- RDASR
+-- RDASR: an ancillary state register goes to register rd
 abbrev pub read_asr_effect : List ℕ → ℕ → ℕ → ℕ → State → Effect
 read_asr_effect registers core rd number s = sets registers rd (asr_value core number) s
 
@@ -25,7 +25,7 @@ read_asr_effect registers core rd number s = sets registers rd (asr_value core n
 abbrev pub written_value : State → ℕ → Src → ℕ
 written_value s rs1 src = bit_xor (register s rs1) (operand s src)
 
--- WRY, at once
+-- WRY: Y is written at once, not some instructions later
 abbrev pub write_state_effect : List ℕ → StateName → ℕ → Src → State → Option Effect
 write_state_effect registers Y rs1 src s = Some (changes registers [] (advanced (record s { y = written_value s rs1 src })))
 write_state_effect registers _ rs1 src s = None

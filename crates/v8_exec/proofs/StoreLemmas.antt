@@ -1,7 +1,12 @@
 -- ST: its operands and its number as they were read are those of its effect.
 use Rattle.std.proofs.Common.{◌≡◌, ℕ, ◌+◌, ◌%◌, ◌^◌, List, [], ◌∷◌, ◌++◌, Some, None, Ok, subst, ◌∙◌, arith}
 use Rattle.lf_model.specs.State.{State, register, operand}
-use Rattle.lf_model.specs.Effect.{operands, sum_of_operands, put_word, store_word}
+use Rattle.lf_model.specs.Instructions.{operand_registers}
+use Rattle.lf_model.specs.Effect.{sum_of_operands}
+use Rattle.lf_model.specs.Effects.{effect}
+use Rattle.v8_exec.specs.Accesses.{put_word}
+use Rattle.lf_model.specs.declared.instruction.MemName.TheVariants.{St}
+use Rattle.lf_model.specs.declared.instruction.Instr.TheVariants.{Mem}
 use Rattle.lf_model.specs.Run.{Run}
 use Rattle.lf_model.specs.Step.{Seen, Parts, state_of, run_seen, first_bad, Does}
 use Rattle.lf_model.specs.declared.control.Arch.{Arch}
@@ -22,7 +27,8 @@ sum_read s rs1 src x y first second = subst (λ (m : ℕ). (x + y) % 2 ^ 32 ≡ 
 pub stored_does : (seen after : Seen) (parts left : Parts) (a : Arch) (rd rs1 : ℕ) (src : Src) (x : Stored) (addr : ℕ) (did : Did) (new : Run)
     → after ≡ seen → left ≡ parts → ReadsStored parts (state_of a seen) rd rs1 src (Ok x) → addr ≡ (x.a + x.b) % 2 ^ 32
     → PutsWord after left a addr x.value did new
-    → Does seen.site.core parts (Some (store_word seen.site rd rs1 src (state_of a seen))) did (run_seen a seen) new
+    → Does seen.site.core parts (effect seen.site (state_of a seen) (Mem St rd rs1 src)) did (run_seen a seen) new
+unfolding effect
 stored_does seen after parts left a rd rs1 src x addr did new same kept read sum puts =
     let here : PutsWord seen left a addr x.value did new = subst (λ (t : Seen). PutsWord t left a addr x.value did new) same puts in
     let there : PutsWord seen parts a addr x.value did new = subst (λ (t : Parts). PutsWord seen t a addr x.value did new) kept here in
@@ -31,4 +37,4 @@ stored_does seen after parts left a rd rs1 src x addr did new same kept read sum
     subst (λ (n : ℕ). PutsWord seen parts a n x.value did new) (sum ∙ sum_read s rs1 src x.a x.b read.0 read.1) there in
     let valued : PutsWord seen parts a (sum_of_operands s rs1 src) (register s rd) did new =
     subst (λ (n : ℕ). PutsWord seen parts a (sum_of_operands s rs1 src) n did new) read.2 addressed in
-    valued (operands rs1 src ++ rd ∷ []) read.3
+    valued (operand_registers rs1 src ++ rd ∷ []) read.3

@@ -1,6 +1,8 @@
--- What every instruction leaves as it was.
+-- What every instruction leaves as it was, and how it meets its effect.
 use Rattle.std.specs.Prelude.{ℕ, ◌≡◌, ◌≤◌, ◌+◌, length}
-use Rattle.lf_model.specs.Step.{IsSound, Seen, counted}
+use Rattle.lf_model.specs.Effects.{effect}
+use Rattle.lf_model.specs.Step.{IsSound, Seen, Parts, state_of, run_seen, counted, Does}
+use Rattle.lf_model.specs.declared.instruction.Instr.{Instr}
 use Rattle.lf_model.specs.declared.step.Did.{Did}
 use Rattle.lf_model.specs.declared.control.Arch.{Arch}
 
@@ -22,3 +24,8 @@ pub record Counts (old new : Arch) (before after : Seen) (spare left : ℕ) (did
   pub k : new.k + length before.ops ≡ old.k + length after.ops
   pub site : after.site ≡ before.site
   pub room : spare ≤ left + 1
+
+-- an instruction comes to what its effect says, and leaves that
+abbrev pub Performs : Instr → Parts → Did → Arch → Arch → Seen → Seen → Type 0
+Performs instr parts did old new before after =
+    Does before.site.core parts (effect before.site (state_of old before) instr) did (run_seen old before) (run_seen new after)

@@ -1,2 +1,4 @@
 pub mod Reading
+pub mod Calculating
+pub mod Accesses
 pub mod Frame

@@ -2,12 +2,13 @@
 use Rattle.std.specs.Prelude.{ℕ, ◌≡◌, ◌<◌, ◌≤◌, ◌%◌, true, ◌*◌, ◌^◌, ⊤, ◌++◌, ◌∷◌, [], Some, None, Result, Ok, Err}
 use Rattle.lf_model.specs.State.{State, register, operand}
 use Rattle.lf_model.specs.Start.{is_in_ram}
-use Rattle.lf_model.specs.Effect.{Site, operands}
+use Rattle.lf_model.specs.Instructions.{operand_registers}
+use Rattle.lf_model.specs.Effect.{Site}
 use Rattle.lf_model.specs.Step.{Parts, bad_register, first_bad}
 use Rattle.lf_model.specs.declared.instruction.Src.{Src}
 use Rattle.lf_model.specs.declared.instruction.Src.TheVariants.{Reg, Imm}
 use Rattle.lf_model.specs.declared.instruction.Instr.{Instr}
-use Rattle.lf_model.specs.declared.instruction.Instr.TheVariants.{Sethi, Calc, Ticc, Mem}
+use Rattle.lf_model.specs.declared.instruction.Instr.TheVariants.{Call, Sethi, Bicc, Calc, Ticc, ReadState, ReadAsr, WriteState, WriteAsr, Jmpl, Flush, Mem}
 use Rattle.lf_model.specs.declared.step.RegBad.{RegBad}
 use Rattle.v8_exec.specs.declared.operands.Operands.{Operands}
 use Rattle.v8_exec.specs.declared.operands.Stored.{Stored}
@@ -17,13 +18,21 @@ use Rattle.lf_model.specs.declared.step.Look.TheVariants.{Hit, Miss}
 -- the fields of a second operand are as an instruction word has them
 abbrev pub IsSource : Src → Type 0
 IsSource (Reg n) = n < 32
-IsSource (Imm i) = i < 8192
+IsSource (Imm i) = i < 2 ^ 13
 
 -- the fields of an instruction that is built are as an instruction word has them
 abbrev pub IsInstruction : Instr → Type 0
+IsInstruction (Call disp30) = disp30 < 2 ^ 30
 IsInstruction (Sethi rd imm22) = (rd < 32) × (imm22 < 2 ^ 22)
+IsInstruction (Bicc cond a disp22) = disp22 < 2 ^ 22
 IsInstruction (Calc name rd rs1 src) = (rd < 32) × (rs1 < 32) × IsSource src
 IsInstruction (Ticc cond rs1 src) = (rs1 < 32) × IsSource src
+IsInstruction (ReadState name rd) = rd < 32
+IsInstruction (ReadAsr rd rs1) = rd < 32
+IsInstruction (WriteState name rs1 src) = (rs1 < 32) × IsSource src
+IsInstruction (WriteAsr rd rs1 src) = (rs1 < 32) × IsSource src
+IsInstruction (Jmpl rd rs1 src) = (rd < 32) × (rs1 < 32) × IsSource src
+IsInstruction (Flush rs1 src) = (rs1 < 32) × IsSource src
 IsInstruction (Mem name rd rs1 src) = (rd < 32) × (rs1 < 32) × IsSource src
 IsInstruction _ = ⊤
 
@@ -32,8 +41,9 @@ ReadsRegister parts s n (Ok value) = (value ≡ register s n) × (bad_register p
 ReadsRegister parts s n (Err bad) = bad_register parts s.ctl.cwp n ≡ Some bad
 
 abbrev pub ReadsOperands : Parts → State → ℕ → Src → Result Operands RegBad → Type 0
-ReadsOperands parts s rs1 src (Ok x) = (x.a ≡ register s rs1) × (x.b ≡ operand s src) × (first_bad parts s.ctl.cwp (operands rs1 src) ≡ None)
-ReadsOperands parts s rs1 src (Err bad) = first_bad parts s.ctl.cwp (operands rs1 src) ≡ Some bad
+ReadsOperands parts s rs1 src (Ok x) = (x.a ≡ register s rs1) × (x.b ≡ operand s src)
+    × (first_bad parts s.ctl.cwp (operand_registers rs1 src) ≡ None)
+ReadsOperands parts s rs1 src (Err bad) = first_bad parts s.ctl.cwp (operand_registers rs1 src) ≡ Some bad
 
 -- the second operand is read when rs1 was read well
 abbrev pub ReadsSource : Parts → State → Src → Result ℕ RegBad → Type 0
@@ -43,8 +53,8 @@ ReadsSource parts s (Imm i) result = result ≡ Ok (operand s (Imm i))
 -- a store reads its operands and then the register that it stores
 abbrev pub ReadsStored : Parts → State → ℕ → ℕ → Src → Result Stored RegBad → Type 0
 ReadsStored parts s rd rs1 src (Ok x) = (x.a ≡ register s rs1) × (x.b ≡ operand s src) × (x.value ≡ register s rd)
-    × (first_bad parts s.ctl.cwp (operands rs1 src ++ rd ∷ []) ≡ None)
-ReadsStored parts s rd rs1 src (Err bad) = first_bad parts s.ctl.cwp (operands rs1 src ++ rd ∷ []) ≡ Some bad
+    × (first_bad parts s.ctl.cwp (operand_registers rs1 src ++ rd ∷ []) ≡ None)
+ReadsStored parts s rd rs1 src (Err bad) = first_bad parts s.ctl.cwp (operand_registers rs1 src ++ rd ∷ []) ≡ Some bad
 
 -- a look-up answers a number of so many bytes
 abbrev pub FitsLook : ℕ → Look → Type 0

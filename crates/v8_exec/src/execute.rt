@@ -1,46 +1,58 @@
-ghost use Rattle.std.specs.Prelude.{◌≡◌, ◌<◌, ◌≤◌, ◌+◌, ◌^◌, [], Some, length, option_and_then};
-ghost use Rattle.lf_model.specs.Opcodes.{instruction};
-ghost use Rattle.lf_model.specs.Effect.{effect, fetch_trap};
+ghost use Rattle.std.specs.Prelude.{◌≡◌, ◌<◌, ◌≤◌, ◌+◌, ◌^◌, Some, option_and_then};
+ghost use Rattle.lf_model.specs.Built.{built};
+ghost use Rattle.lf_model.specs.Effects.{effect};
+ghost use Rattle.lf_model.specs.Traps.{fetch_trap};
 ghost use Rattle.lf_model.specs.Step.{IsSound, state_of, run_seen, counted, Does};
-ghost use Rattle.v8_exec.specs.Frame.{Keeps, Counts};
+ghost use Rattle.v8_exec.specs.Frame.{Keeps, Counts, Performs};
 ghost use Rattle.v8_exec.specs.Reading.{IsInstruction};
 
 use crate::ports::Ports;
-use crate::{calculate, control, decoder, memory, trap};
+use crate::words::built_instruction;
+use crate::{barrier, branch, calculate, memory, refuse, state_register, trap};
 use lf_model::control::Arch;
-use lf_model::instruction::{Instr, MemName};
+use lf_model::instruction::Instr;
 use lf_model::step::Did;
 
 /// Trap type of a PC that is no text word: `instruction_access_exception`.
 const FETCH_ACCESS: u8 = 0x01;
 
 /// Makes an instruction's effect, where it is built.
-#[tactic(auto, unfolding(lf_model::specs::Effect::effect))]
+#[tactic(auto, unfolding(lf_model::specs::Effects::effect))]
 fn perform<P: Ports>(a: &mut Arch, instr: Instr, p: &mut P) -> Did
     requires sound { IsSound a.old }
+    requires core { a.old.core ≡ (P.seen p.old).site.core }
     requires count { a.old.k + 1 < 2 ^ 32 }
     requires fields { IsInstruction instr }
     requires room { 0 < P.room p.old }
-    ensures does { Does (P.seen p.old).site.core (P.parts p.old) (effect (P.seen p.old).site (state_of a.old (P.seen p.old)) instr) result (run_seen a.old (P.seen p.old)) (run_seen a.new (P.seen p.new)) }
+    ensures does { Performs instr (P.parts p.old) result a.old a.new (P.seen p.old) (P.seen p.new) }
     ensures keeps { Keeps a.old a.new (P.seen p.old) (P.seen p.new) (P.room p.old) (P.room p.new) }
 {
     match instr {
+        Instr::Illegal => refuse::illegal(a, p),
+        Instr::AltIllegal => refuse::illegal_alternate(a, p),
+        Instr::FpOff => refuse::floating_point(a, p),
+        Instr::CpOff => refuse::coprocessor(a, p),
+        Instr::FpQueue => refuse::floating_point_queue(a, p),
+        Instr::CpQueue => refuse::coprocessor_queue(a, p),
+        Instr::Stbar => barrier::store_barrier(a, p),
+        Instr::Flush { rs1, src } => barrier::flush(a, rs1, src, p),
+        Instr::Call { disp30 } => branch::call(a, disp30, p),
+        Instr::Bicc {
+            cond,
+            a: annul,
+            disp22,
+        } => branch::branch(a, cond, annul, disp22, p),
+        Instr::Jmpl { rd, rs1, src } => branch::jump(a, rd, rs1, src, p),
+        Instr::Ticc { cond, rs1, src } => branch::software_trap(a, cond, rs1, src, p),
         Instr::Sethi { rd, imm22 } => calculate::sethi(a, rd, imm22, p),
         Instr::Calc { name, rd, rs1, src } => calculate::calculate(a, name, rd, rs1, src, p),
-        Instr::Ticc { cond: 8, rs1, src } => control::trap_always(a, rs1, src, p),
-        Instr::Mem {
-            name: MemName::Ld,
-            rd,
-            rs1,
-            src,
-        } => memory::load_word(a, rd, rs1, src, p),
-        Instr::Mem {
-            name: MemName::St,
-            rd,
-            rs1,
-            src,
-        } => memory::store_word(a, rd, rs1, src, p),
-        _ => Did::Unbuilt,
+        Instr::ReadState { name, rd } => state_register::read(a, name, rd, p),
+        Instr::ReadAsr { rd, rs1 } => state_register::read_asr(a, rd, rs1, p),
+        Instr::WriteState { name, rs1, src } => state_register::write(a, name, rs1, src, p),
+        Instr::WriteAsr { rd, rs1, src } => state_register::write_asr(a, rd, rs1, src, p),
+        Instr::Mem { name, rd, rs1, src } => memory::access(a, name, rd, rs1, src, p),
+        Instr::Rett { .. } | Instr::Save { .. } | Instr::Restore { .. } | Instr::Alternate { .. } =>
+            Did::Unbuilt,
     }
 }
 
@@ -58,13 +70,14 @@ fn count(did: Did) -> u32
 /// that retires changes state, output or operations; it is counted then, and where it halts the core.
 pub fn exec<P: Ports>(a: &mut Arch, w: u32, p: &mut P) -> Did
     requires sound { IsSound a.old }
+    requires core { a.old.core ≡ (P.seen p.old).site.core }
     requires instructions { a.old.n + 1 < 2 ^ 32 }
     requires operations { a.old.k + 1 < 2 ^ 32 }
     requires room { 0 < P.room p.old }
-    ensures does { Does (P.seen p.old).site.core (P.parts p.old) (option_and_then (effect (P.seen p.old).site (state_of a.old (P.seen p.old))) (instruction w)) result (run_seen a.old (P.seen p.old)) (run_seen a.new (P.seen p.new)) }
+    ensures does { Does (P.seen p.old).site.core (P.parts p.old) (option_and_then (effect (P.seen p.old).site (state_of a.old (P.seen p.old))) (built w)) result (run_seen a.old (P.seen p.old)) (run_seen a.new (P.seen p.new)) }
     ensures counts { Counts a.old a.new (P.seen p.old) (P.seen p.new) (P.room p.old) (P.room p.new) result }
 {
-    let Some(instr) = decoder::decode(w) else {
+    let Some(instr) = built_instruction(w) else {
         return Did::Unbuilt;
     };
     let did = perform(a, instr, p);
@@ -79,7 +92,7 @@ pub fn fetch_trap<P: Ports>(a: &mut Arch, p: &mut P) -> Did
     ensures does { Does (P.seen p.old).site.core (P.parts p.old) (Some (fetch_trap (state_of a.old (P.seen p.old)))) result (run_seen a.old (P.seen p.old)) (run_seen a.new (P.seen p.new)) }
     ensures counts { Counts a.old a.new (P.seen p.old) (P.seen p.new) (P.room p.old) (P.room p.new) result }
 {
-    let did = trap::take(a, FETCH_ACCESS, p);
+    let did = trap::take_unread(a, FETCH_ACCESS, p);
     a.n += count(did);
     did
 }

@@ -2,15 +2,22 @@
 //! order, and its effect made through the ports to the parts of the core.
 #![tactic(auto)]
 
+mod barrier;
+mod branch;
 mod calculate;
-mod control;
-mod decoder;
+mod calculation;
+mod conditions;
 mod execute;
-mod fields;
 mod memory;
 mod operands;
 mod ports;
+mod program_counter;
+mod refuse;
+mod state_register;
+#[cfg(test)]
+mod tests;
 mod trap;
+mod words;
 
 pub use execute::{exec, fetch_trap};
 pub use lf_model::control::{Arch, Ctl};

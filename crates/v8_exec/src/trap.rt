@@ -1,5 +1,5 @@
-ghost use Rattle.std.specs.Prelude.{◌≡◌, ◌^◌, ◌<◌, ◌≤◌, ◌+◌, ◌*◌, ◌/◌, ◌%◌, List, ℕ, Some, None};
-ghost use Rattle.lf_model.specs.Effect.{trap_effect, entered};
+ghost use Rattle.std.specs.Prelude.{◌≡◌, ◌^◌, ◌<◌, ◌≤◌, ◌+◌, ◌*◌, ◌/◌, ◌%◌, List, [], ℕ, Some, None};
+ghost use Rattle.lf_model.specs.Traps.{trap_effect, entered};
 ghost use Rattle.lf_model.specs.State.{State};
 ghost use Rattle.lf_model.specs.Step.{IsSound, state_of, run_seen, first_bad, drains_first, Does};
 ghost use Rattle.lf_model.specs.declared.bus.Why.TheVariants.{End};
@@ -13,6 +13,9 @@ use lf_model::step::{Did, RegBad, Turn};
 
 /// Trap type of a bad register: `r_register_access_error`.
 const REGISTER_ERROR: u8 = 0x20;
+
+/// Trap type of an address that is no multiple of its size: `mem_address_not_aligned`.
+pub const NOT_ALIGNED: u8 = 0x07;
 
 /// The address of a trap's handler: the trap base address with the trap type.
 fn vector(tbr: u32, tt: u8) -> u32
@@ -79,4 +82,13 @@ pub fn take<P: Ports>(a: &mut Arch, tt: u8, p: &mut P) -> Did
     } else {
         end_of(Did::Halt(tt), p)
     }
+}
+
+/// An ordinary trap of an instruction that reads no register.
+pub fn take_unread<P: Ports>(a: &mut Arch, tt: u8, p: &mut P) -> Did
+    requires sound { IsSound a.old }
+    ensures does { Does (P.seen p.old).site.core (P.parts p.old) (Some (trap_effect tt [] (state_of a.old (P.seen p.old)))) result (run_seen a.old (P.seen p.old)) (run_seen a.new (P.seen p.new)) }
+    ensures keeps { Keeps a.old a.new (P.seen p.old) (P.seen p.new) (P.room p.old) (P.room p.new) }
+{
+    take(a, tt, p)
 }

@@ -1,0 +1,98 @@
+ghost use Rattle.std.specs.Prelude.{◌<◌, ◌^◌};
+ghost use Rattle.lf_model.specs.Step.{IsSound};
+ghost use Rattle.lf_model.specs.declared.instruction.Instr.TheVariants.{Call, Jmpl, Bicc, Ticc};
+ghost use Rattle.v8_exec.specs.Frame.{Keeps, Performs};
+ghost use Rattle.v8_exec.specs.Reading.{IsSource};
+
+use crate::conditions::holds;
+use crate::operands::{read_operands, write_register};
+use crate::ports::Ports;
+use crate::program_counter::{advance, annul, displaced, transfer};
+use crate::trap;
+use lf_model::control::Arch;
+use lf_model::instruction::Src;
+use lf_model::step::Did;
+
+/// The register that CALL writes, %o7.
+const LINK: u8 = 15;
+
+/// The condition of BA.
+const ALWAYS: u8 = 8;
+
+/// CALL: PC goes to register 15, and the instruction at the target comes after that in the delay slot.
+#[tactic(auto, unfolding(lf_model::specs::Effects::effect))]
+pub fn call<P: Ports>(a: &mut Arch, disp30: u32, p: &mut P) -> Did
+    requires sound { IsSound a.old }
+    ensures does { Performs (Call disp30) (P.parts p.old) result a.old a.new (P.seen p.old) (P.seen p.new) }
+    ensures keeps { Keeps a.old a.new (P.seen p.old) (P.seen p.new) (P.room p.old) (P.room p.new) }
+{
+    write_register(a, LINK, a.ctl.pc, p);
+    transfer(a, displaced(a.ctl.pc, disp30));
+    Did::Retired
+}
+
+/// JMPL: PC goes to register `rd`, and the sum of the operands is the target; it traps where that is no multiple
+/// of 4.
+#[tactic(auto, unfolding(lf_model::specs::Effects::effect))]
+pub fn jump<P: Ports>(a: &mut Arch, rd: u8, rs1: u8, src: Src, p: &mut P) -> Did
+    requires sound { IsSound a.old }
+    requires registers { (rd < 32) × (rs1 < 32) }
+    requires fields { IsSource src }
+    ensures does { Performs (Jmpl rd rs1 src) (P.parts p.old) result a.old a.new (P.seen p.old) (P.seen p.new) }
+    ensures keeps { Keeps a.old a.new (P.seen p.old) (P.seen p.new) (P.room p.old) (P.room p.new) }
+{
+    let target = match read_operands(a, rs1, src, p) {
+        Ok(x) => x.a.wrapping_add(x.b),
+        Err(bad) => return trap::stop(bad, p),
+    };
+    if target % 4 != 0 {
+        return trap::take(a, trap::NOT_ALIGNED, p);
+    }
+    write_register(a, rd, a.ctl.pc, p);
+    transfer(a, target);
+    Did::Retired
+}
+
+/// Bicc: a delayed transfer where the condition holds. The annul bit annuls the delay slot where it does not hold,
+/// and that of BA.
+#[tactic(auto, unfolding(lf_model::specs::Effects::effect))]
+pub fn branch<P: Ports>(a: &mut Arch, cond: u8, annul_bit: bool, disp22: u32, p: &P) -> Did
+    requires sound { IsSound a.old }
+    requires displacement { disp22 < 2 ^ 22 }
+    ensures does { Performs (Bicc cond annul_bit disp22) (P.parts p.now) result a.old a.new (P.seen p.now) (P.seen p.now) }
+    ensures keeps { Keeps a.old a.new (P.seen p.now) (P.seen p.now) (P.room p.now) (P.room p.now) }
+{
+    let target = displaced(a.ctl.pc, lf_num::sext(disp22, 22));
+    if holds(cond, a.ctl.icc) {
+        if annul_bit && cond == ALWAYS {
+            annul(a, target);
+        } else {
+            transfer(a, target);
+        }
+    } else if annul_bit {
+        annul(a, a.ctl.npc.wrapping_add(4));
+    } else {
+        advance(a);
+    }
+    Did::Retired
+}
+
+/// Ticc: where the condition holds a software trap, of type 80 to FF hex by the sum of the operands.
+#[tactic(auto, unfolding(lf_model::specs::Effects::effect))]
+pub fn software_trap<P: Ports>(a: &mut Arch, cond: u8, rs1: u8, src: Src, p: &mut P) -> Did
+    requires sound { IsSound a.old }
+    requires register { rs1 < 32 }
+    requires fields { IsSource src }
+    ensures does { Performs (Ticc cond rs1 src) (P.parts p.old) result a.old a.new (P.seen p.old) (P.seen p.new) }
+    ensures keeps { Keeps a.old a.new (P.seen p.old) (P.seen p.new) (P.room p.old) (P.room p.new) }
+{
+    let number = match read_operands(a, rs1, src, p) {
+        Ok(x) => x.a.wrapping_add(x.b) % 128,
+        Err(bad) => return trap::stop(bad, p),
+    };
+    if holds(cond, a.ctl.icc) {
+        return trap::take(a, 128 + number as u8, p);
+    }
+    advance(a);
+    Did::Retired
+}
