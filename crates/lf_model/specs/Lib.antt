@@ -23,3 +23,8 @@ pub mod Texts
 pub mod TransferLines
 pub mod Report
 pub mod Step
+pub mod Flips
+pub mod Fates
+pub mod WordHistory
+pub mod StopCause
+pub mod FlipFates
