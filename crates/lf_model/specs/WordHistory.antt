@@ -1,29 +1,27 @@
--- The history of a memory word: flips strike it as turns of the bus begin, and transfers write it.
-use Rattle.std.specs.Prelude.{ℕ, ◌+◌, ◌-◌, ◌%◌, ◌==◌, ◌&&◌, nat_le, nat_lt, not, Bool, List, [], ◌∷◌, length, Option, Some, None, if◌then◌else◌, fold}
+-- The history of a memory word: flips of the script strike it as turns of the bus begin, and transfers write it.
+use Rattle.std.specs.Prelude.{ℕ, ◌+◌, ◌==◌, ◌&&◌, nat_lt, not, Bool, List, [], ◌∷◌, length, Option, Some, None, fold, if◌then◌else◌}
 use Rattle.std.specs.List.{list_any, filter_map, range_with_len, zip}
-use Rattle.lf_model.specs.Flips.{How, Moment, is_bad, is_fixed}
+use Rattle.lf_model.specs.Flips.{How, Moment, is_bad_word, is_fixed_word}
 use Rattle.lf_model.specs.Flips.How.{Whole, ByPartStore, ByAtomic, ByFix}
 use Rattle.lf_model.specs.Flips.Moment.{Struck, Written, Named}
 use Rattle.lf_model.specs.declared.bus.Transfer.{Transfer}
 use Rattle.lf_model.specs.declared.bus.TurnKind.{TurnKind}
-use Rattle.lf_model.specs.declared.bus.TurnKind.TheVariants.{Fetch, Load, Store, Atomic, Snoop, Look, Fix}
+use Rattle.lf_model.specs.declared.bus.TurnKind.TheVariants.{Store, Atomic, Fix}
 use Rattle.lf_model.specs.declared.flip.Flip.{Flip}
-use Rattle.lf_model.specs.declared.flip.Flip.TheVariants.{Mem, Reg, Tag, Line}
+use Rattle.lf_model.specs.declared.flip.Flip.TheVariants.{Mem}
 
--- the moment that flip number i makes for a word as a turn begins, if it is a flip of that word for that turn
-abbrev pub strike : ℕ → ℕ → ℕ × Flip → Option Moment
-strike turn word (i, Mem at addr bit) = if at == turn && addr == word then Some (Struck i bit) else None
-strike turn word (i, Reg core step cell bit) = None
-strike turn word (i, Tag core step fetch way set byte bit) = None
-strike turn word (i, Line core step fetch way set byte bit) = None
+-- the moment that a numbered flip makes for a word as a turn begins, if it is a flip of that word for that turn
+abbrev pub strike_at : ℕ → ℕ → ℕ × Flip → Option Moment
+strike_at turn word (number, Mem at addr bit) = if at == turn && addr == word then Some (Struck number bit) else None
+strike_at turn word (number, _) = None
 
--- the flips of the script with their numbers
+-- the flips of the script with their numbers, from 0
 abbrev pub numbered_flips : List Flip → List (ℕ × Flip)
 numbered_flips script = zip (range_with_len 0 (length script)) script
 
--- what strikes a word as a turn begins, in the order of the script
-abbrev pub strikes : List Flip → ℕ → ℕ → List Moment
-strikes script turn word = filter_map (strike turn word) (numbered_flips script)
+-- the moments of a word as a turn begins, in the order of the script
+abbrev pub strikes_at : List Flip → ℕ → ℕ → List Moment
+strikes_at script turn word = filter_map (strike_at turn word) (numbered_flips script)
 
 -- the history with these moments, which come one after another
 abbrev pub after_moments : List Moment → List Moment → List Moment
@@ -31,28 +29,19 @@ after_moments moments h = fold (λ earlier moment. moment ∷ earlier) h moments
 
 -- the history of a word once a turn has begun
 abbrev pub begun : List Flip → ℕ → ℕ → List Moment → List Moment
-begun script word turn h = after_moments (strikes script turn word) h
+begun script word turn h = after_moments (strikes_at script turn word) h
 
--- the word that holds a byte
-abbrev pub word_of : ℕ → ℕ
-word_of addr = addr - addr % 4
+-- a transfer touches the word at this address
+abbrev pub touches_word : Transfer → ℕ → Bool
+touches_word t word = nat_lt t.addr (word + 4) && nat_lt word (t.addr + t.len)
 
--- a store that reads no word stores whole words: this one is among them
-abbrev pub is_stored : Transfer → ℕ → Bool
-is_stored t word = nat_le t.addr word && nat_lt word (t.addr + t.len)
-
--- how a transfer writes a word of this history, if it does: a store of whole words; a part store and an atomic of a
--- word that is not bad; a fix that met the word fixed
-abbrev pub write_by : TurnKind → Transfer → ℕ → List Moment → Option How
-write_by Fetch t word h = None
-write_by Load t word h = None
-write_by Store t word h = if t.words == 0
-    then (if is_stored t word then Some Whole else None)
-    else (if word_of t.addr == word && not (is_bad h) then Some ByPartStore else None)
-write_by Atomic t word h = if word_of t.addr == word && not (is_bad h) then Some ByAtomic else None
-write_by Snoop t word h = None
-write_by Look t word h = None
-write_by Fix t word h = if t.addr == word && is_fixed h then Some ByFix else None
+-- how a transfer that touches a word of this history writes it, if it does: a store of words writes it whole; a part
+-- store and an atomic write it unless it is bad; a fix where it met it fixed
+abbrev pub write_by : TurnKind → ℕ → List Moment → Option How
+write_by Store len h = if nat_lt len 4 then (if is_bad_word h then None else Some ByPartStore) else Some Whole
+write_by Atomic len h = if is_bad_word h then None else Some ByAtomic
+write_by Fix len h = if is_fixed_word h then Some ByFix else None
+write_by _ len h = None
 
 abbrev pub with_write : Option How → List Moment → List Moment
 with_write None h = h
@@ -69,12 +58,17 @@ is_named_at namings turn word = list_any (λ naming. naming.turn == turn && nami
 abbrev pub with_name : Bool → List Moment → List Moment
 with_name named h = if named then Named ∷ h else h
 
--- the history of a word after one more transfer
-abbrev pub after_transfer : List Flip → List Naming → ℕ → List Moment → Transfer → List Moment
-after_transfer script namings word h t =
-    let met = begun script word t.turn h in
-    with_name (is_named_at namings t.turn word) (with_write (write_by t.kind t word met) met)
+-- the history of a word after the transfer of this turn
+abbrev pub after_transfer : List Flip → List Naming → ℕ → ℕ → List Moment → Transfer → List Moment
+after_transfer script namings word turn h t =
+    let met = begun script word turn h in
+    with_name (is_named_at namings turn word) (with_write (if touches_word t word then write_by t.kind t.len met else None) met)
 
--- the history of a word after these transfers, of which stores and atomics have their lengths
+-- the history of a word after transfers, the first of which is that of this turn
+abbrev pub history_from : List Flip → List Naming → ℕ → ℕ → List Moment → List Transfer → List Moment
+history_from script namings word turn h [] = h
+history_from script namings word turn h (t ∷ ts) = history_from script namings word (turn + 1) (after_transfer script namings word turn h t) ts
+
+-- the history of a word after these transfers, of which stores, atomics and fixes tell the address and length written
 abbrev pub history : List Flip → List Naming → ℕ → List Transfer → List Moment
-history script namings word transfers = fold (after_transfer script namings word) [] transfers
+history script namings word transfers = history_from script namings word 0 [] transfers
