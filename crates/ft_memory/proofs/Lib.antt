@@ -1,0 +1,4 @@
+pub mod ToggleLemmas
+pub mod StoredLemmas
+pub mod LineLemmas
+pub mod LoadLemmas

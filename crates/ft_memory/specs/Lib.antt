@@ -1,0 +1,4 @@
+pub mod Toggling
+pub mod Cells
+pub mod Stored
+pub mod Memory
