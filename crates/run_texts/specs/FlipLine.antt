@@ -1,0 +1,58 @@
+-- A line of a script of bit flips, as the list of its fields: the faults that it may have, and the flip that it spells.
+use Rattle.std.specs.Prelude.{ℕ, ◌≡◌, ◌^◌, ◌%◌, ◌<◌, Bool, true, nat_le, if◌then◌else◌, List, [], ◌∷◌, Option, Some, None, is_none, option_and_then, codes}
+use Rattle.std.specs.Option.{option_map_or}
+use Rattle.std.specs.Str.{bytes_eq}
+use Rattle.lf_model.specs.Start.{is_in_ram}
+use Rattle.lf_model.specs.declared.config.Config.{Config}
+use Rattle.lf_model.specs.declared.flip.Flip.{Flip}
+use Rattle.lf_model.specs.declared.flip.Flip.TheVariants.{Mem}
+use Rattle.run_texts.specs.declared.error.TextWhy.{TextWhy}
+use Rattle.run_texts.specs.declared.error.TextWhy.TheVariants.{Word, Many}
+use Rattle.run_texts.specs.declared.flip_line.FlipKind.{FlipKind}
+use Rattle.run_texts.specs.declared.flip_line.FlipKind.TheVariants.{MemoryWord}
+use Rattle.run_texts.specs.Text.{is_comment}
+use Rattle.run_texts.specs.Columns.{Column, below, word_of_ram, field_faults, first_fault, values}
+
+-- the kind of flip that a first field names, None where the field is unknown
+unfoldable pub kind_of : List ℕ → Option FlipKind
+kind_of first = if bytes_eq first (codes "mem") then Some MemoryWord else None
+
+-- The columns behind the first field. A memory word is struck at a turn of the bus, by its address, in a bit of its cell.
+abbrev pub columns : Config → FlipKind → List Column
+columns config MemoryWord = below (2 ^ 32) ∷ word_of_ram config.ram ∷ below 39 ∷ []
+
+-- the flip of a kind with the values of its columns, None where they are too few or too many
+abbrev pub flip_with : FlipKind → List ℕ → Option Flip
+flip_with MemoryWord (turn ∷ addr ∷ bit ∷ []) = Some (Mem turn addr bit)
+flip_with MemoryWord _ = None
+
+-- the most flips that a script may have
+abbrev pub most_flips : ℕ
+most_flips = 65536
+
+-- The faults of a line with this first field and these others, behind so many flips. They stand in the order in which
+-- they are told, each with whether the line has it.
+abbrev pub faults : Config → ℕ → List ℕ → List (List ℕ) → List (Bool × TextWhy)
+faults config earlier first others =
+    (is_none (kind_of first), Word)
+    ∷ (nat_le most_flips earlier, Many)
+    ∷ field_faults (option_map_or (columns config) (kind_of first) []) others
+
+-- the fault that is told of a line behind so many flips; an empty line and a comment have none
+unfoldable pub fault_of : Config → ℕ → List (List ℕ) → Option TextWhy
+fault_of config earlier [] = None
+fault_of config earlier (first ∷ others) =
+    if is_comment first then None else first_fault (faults config earlier first others)
+
+-- the flip that a line without a fault spells; an empty line and a comment spell none
+unfoldable pub flip_of : Config → List (List ℕ) → Option Flip
+flip_of config [] = None
+flip_of config (first ∷ others) =
+    if is_comment first then None
+    else option_and_then (λ kind. flip_with kind (values (columns config kind) others)) (kind_of first)
+
+-- a flip is of a bit that the machine of this configuration has; only memory words are struck so far
+abbrev pub IsOfMachine : Config → Flip → Type 0
+IsOfMachine config (Mem turn addr bit) =
+    (turn < 2 ^ 32) × (addr % 4 ≡ 0) × (is_in_ram config.ram addr 4 ≡ true) × (bit < 39)
+IsOfMachine config _ = ⊥

@@ -1,0 +1,41 @@
+use std::alloc::AllocError;
+
+/// What is wrong with a line of a text, the fault that is told first at the head.
+#[derive(Clone, Copy, Debug, PartialEq, Eq)]
+pub enum TextWhy {
+    /// The first field is not known.
+    Word,
+    /// The line would give one flip more than the 65,536 that a script may have.
+    Many,
+    /// There are too few or too many fields.
+    Count,
+    /// A field is not of its form: a number of 1 to 10 decimal digits, or an address of 8 hexadecimal digits.
+    Number,
+    /// The value of a field is out of its range.
+    Range,
+}
+
+/// Why a text was not read.
+#[derive(Clone, Copy, Debug, PartialEq, Eq)]
+pub enum TextErr {
+    /// A line is faulty, and no line before it is.
+    At {
+        /// The number of the line. The first line of the text is 1, and each line counts.
+        line: u64,
+        /// The first fault of this line.
+        why: TextWhy,
+    },
+    /// Memory ran out.
+    Memory,
+}
+
+impl From<AllocError> for TextErr {
+    ghost use Rattle.std.specs.Prelude.{◌≡◌};
+    ghost use Rattle.run_texts.specs.declared.error.TextErr.TheVariants.{Memory};
+
+    ghost from_gives = { λ _ e. e ≡ Memory };
+
+    fn from(_error: AllocError) -> TextErr {
+        TextErr::Memory
+    }
+}

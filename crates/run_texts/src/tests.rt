@@ -1,0 +1,166 @@
+use crate::{TextErr, TextWhy, read_script};
+use lf_model::config::{Config, Shape, Words};
+use lf_model::flip::Flip;
+use lf_model::image::Range;
+use std::alloc::Global;
+use std::test::Fail;
+
+/// Texts that are scripts, and the turn, the address and the bit of each of their flips.
+const SCRIPTS: [(&[u8], &[(u32, u32, u8)]); 10] = [
+    (b"", &[]),
+    (b"\n\r\n \t\r\n", &[]),
+    (b"# mem 0 40000000 39\n\t #mem\n#", &[]),
+    (b"mem 0 40000000 0\n", &[(0, 0x4000_0000, 0)]),
+    (b"mem 0 40000000 0\r\n", &[(0, 0x4000_0000, 0)]),
+    // The ends of the ranges, and a last line with no line feed.
+    (
+        b"mem 4294967295 4000FFFC 38",
+        &[(0xffff_ffff, 0x4000_fffc, 38)],
+    ),
+    // Ten digits, and hexadecimal digits of either case.
+    (
+        b"mem 0000000007 4000aBcC 0000000010",
+        &[(7, 0x4000_abcc, 10)],
+    ),
+    // Spaces and tabs between fields and at both ends of a line.
+    (b"\t mem\t1 \t 40000004  2\t \r\n", &[(1, 0x4000_0004, 2)]),
+    (
+        b"mem 9 40000008 1\n\n# mem\r\nmem 3 40000004 2\n",
+        &[(9, 0x4000_0008, 1), (3, 0x4000_0004, 2)],
+    ),
+    (
+        b"mem 5 40000000 6\nmem 5 40000000 6",
+        &[(5, 0x4000_0000, 6), (5, 0x4000_0000, 6)],
+    ),
+];
+
+/// Texts that are no scripts, the number of the first faulty line of each, and its fault.
+const FAULTS: [(&[u8], u64, TextWhy); 36] = [
+    (b"reg 0 0 0 0", 1, TextWhy::Word),
+    (b"MEM 0 40000000 0", 1, TextWhy::Word),
+    (b"memo 0 40000000 0", 1, TextWhy::Word),
+    (b"mem\x0b0 40000000 0", 1, TextWhy::Word),
+    (b"mem\r 0 40000000 0\n", 1, TextWhy::Word),
+    (b"\r", 1, TextWhy::Word),
+    (b"\xff\x00", 1, TextWhy::Word),
+    (b"mem", 1, TextWhy::Count),
+    (b"mem 0 40000000\n", 1, TextWhy::Count),
+    (b"mem 0 40000000 0 0", 1, TextWhy::Count),
+    (b"mem 0 40000000 0 # a comment", 1, TextWhy::Count),
+    (b"mem 0 40000000 0 \r", 1, TextWhy::Count),
+    (b"mem x 40000001", 1, TextWhy::Count),
+    (b"mem x 40000000 0", 1, TextWhy::Number),
+    (b"mem 0 40000000 +1", 1, TextWhy::Number),
+    (b"mem 0 40000000 -1", 1, TextWhy::Number),
+    (b"mem 00000000000 40000000 0", 1, TextWhy::Number),
+    (b"mem 0 4000000 0", 1, TextWhy::Number),
+    (b"mem 0 040000000 0", 1, TextWhy::Number),
+    (b"mem 0 4000000G 0", 1, TextWhy::Number),
+    (b"mem 0 0x400000 0", 1, TextWhy::Number),
+    (b"mem 0 40000000 0\r", 1, TextWhy::Number),
+    (b"mem 0 40000000 0\r\r\n", 1, TextWhy::Number),
+    // The range of one field, and the form of another.
+    (b"mem 4294967296 40000000 x", 1, TextWhy::Number),
+    (b"mem 0 40000001 1a", 1, TextWhy::Number),
+    (b"mem 4294967296 40000000 0", 1, TextWhy::Range),
+    (b"mem 9999999999 40000000 0", 1, TextWhy::Range),
+    (b"mem 0 3ffffffc 0", 1, TextWhy::Range),
+    (b"mem 0 40010000 0", 1, TextWhy::Range),
+    (b"mem 0 c0000000 0", 1, TextWhy::Range),
+    (b"mem 0 40000002 0", 1, TextWhy::Range),
+    (b"mem 0 40000000 39", 1, TextWhy::Range),
+    // The first of several faulty lines, where each line counts.
+    (b"mem 0 40000000 0\nirq\nmem\n", 2, TextWhy::Word),
+    (
+        b"\n# reg\r\n\t\nmem 0 40000000 39\nreg\n",
+        4,
+        TextWhy::Range,
+    ),
+    (b"mem 0 40000000 0\r\n\r\n\r\nmem 0\r\n", 4, TextWhy::Count),
+    (b"#\n#\nmem a 40000000 0\n", 3, TextWhy::Number),
+];
+
+/// A machine with RAM of 65,536 bytes.
+fn machine(alloc: Global) -> Config {
+    let cache = Shape { ways: 1, sets: 8 };
+    Config {
+        cores: 1,
+        ram: 65_536,
+        steps: 1,
+        window: 1,
+        buffer: 1,
+        fetch_cache: cache,
+        load_cache: cache,
+        scrub: Range {
+            first: 0x4000_0000,
+            length: 4,
+        },
+        scrub_turns: 0,
+        watch: Words::new(alloc),
+    }
+}
+
+/// The turn, the address and the bit of a flip of a memory word.
+fn parts(flip: &Flip) -> Option<(u32, u32, u8)> {
+    match flip {
+        Flip::Mem { turn, addr, bit } => Some((*turn, *addr, *bit)),
+        _ => None,
+    }
+}
+
+#[test]
+fn texts(rt: HostRuntime) -> Result<(), Fail> {
+    let alloc = rt.alloc();
+    let config = machine(alloc);
+    for (text, expected) in SCRIPTS {
+        let flips = read_script(alloc, text, &config)?;
+        assert_eq!(rt; flips.len(), expected.len(), "in {text:?}");
+        for (flip, wanted) in flips.as_slice().iter().zip(expected) {
+            assert_eq!(rt; parts(flip), Some(*wanted), "in {text:?}");
+        }
+    }
+    for (text, line, why) in FAULTS {
+        let answer = read_script(alloc, text, &config).err();
+        assert_eq!(rt; answer, Some(TextErr::At { line, why }), "in {text:?}");
+    }
+    Ok(())
+}
+
+#[test]
+fn most_flips(rt: HostRuntime) -> Result<(), Fail> {
+    let alloc = rt.alloc();
+    let config = machine(alloc);
+    let mut text = Vec::new(alloc);
+    for _ in 0..65_536u32 {
+        text.extend_from_slice(b"mem 0 40000000 0\n")?;
+    }
+    text.extend_from_slice(b"\n# mem\n")?;
+    let flips = read_script(alloc, text.as_slice(), &config)?;
+    assert_eq!(rt; flips.len(), 65_536);
+
+    // One flip more, before the other fault of its line.
+    let whole = text.len();
+    text.extend_from_slice(b"mem 0")?;
+    let answer = read_script(alloc, text.as_slice(), &config).err();
+    let line = 65_539;
+    assert_eq!(rt;
+        answer,
+        Some(TextErr::At {
+            line,
+            why: TextWhy::Many
+        })
+    );
+
+    // No flip more.
+    text.truncate(whole);
+    text.extend_from_slice(b"memo 0")?;
+    let answer = read_script(alloc, text.as_slice(), &config).err();
+    assert_eq!(rt;
+        answer,
+        Some(TextErr::At {
+            line,
+            why: TextWhy::Word
+        })
+    );
+    Ok(())
+}
