@@ -1,3 +1,4 @@
+use crate::refusal::Fault;
 use std::alloc::AllocError;
 
 /// Why a file gave no image.
@@ -5,9 +6,9 @@ use std::alloc::AllocError;
 pub enum ImageErr {
     /// The bytes are refused.
     Refused {
-        /// The number of the rule that they break: 0, since only programs of one segment are read so far.
+        /// The number of the refusal, from 1 to 14; `refusal_name` gives its name.
         number: u8,
-        /// The place in the file that breaks it, in bytes.
+        /// The place in the file that it tells, in bytes.
         offset: u32,
     },
     /// Memory ran out.
@@ -22,5 +23,20 @@ impl From<AllocError> for ImageErr {
 
     fn from(_error: AllocError) -> ImageErr {
         ImageErr::Memory
+    }
+}
+
+impl From<Fault> for ImageErr {
+    ghost use Rattle.std.specs.Prelude.{◌≡◌};
+    ghost use Rattle.elf_image.specs.declared.error.ImageErr.TheVariants.{Refused};
+    ghost use Rattle.elf_image.specs.Names.{number_of};
+
+    ghost from_gives = { λ fault e. e ≡ Refused (number_of fault.refusal) fault.offset };
+
+    fn from(fault: Fault) -> ImageErr {
+        ImageErr::Refused {
+            number: fault.refusal.number(),
+            offset: fault.offset,
+        }
     }
 }

@@ -1,7 +1,7 @@
 -- Memory at the start: the image's bytes in RAM, which of them are text, and which addresses are in RAM.
 -- Numbers stand big-endian (SPARC V8, chapter 5, data formats). Where RAM and the output word lie, and that text
 -- is write-protected, is this machine's own.
-use Rattle.std.specs.Prelude.{ℕ, zero, suc, ◌+◌, ◌-◌, ◌*◌, ◌^◌, Bool, ◌&&◌, nat_lt, nat_le, slice_index, find, List}
+use Rattle.std.specs.Prelude.{ℕ, zero, suc, ◌≡◌, ◌≤◌, ◌+◌, ◌-◌, ◌*◌, ◌%◌, ◌^◌, IsTrue, All, length, Bool, ◌&&◌, nat_lt, nat_le, slice_index, find, List}
 use Rattle.std.specs.List.{list_any, list_all, range_with_len}
 use Rattle.std.specs.Option.{option_map_or}
 use Rattle.lf_model.specs.declared.image.Segment.{Segment}
@@ -56,3 +56,12 @@ number_at byte a (suc n) = number_at byte a n * 2 ^ 8 + byte (a + n)
 -- the image's word at an address
 abbrev pub word_at : Image → ℕ → ℕ
 word_at image a = number_at (initial_byte image) a 4
+
+-- the image can be loaded into RAM of this size: its segments, with no more bytes than memory, and its text lie in RAM,
+-- and its entry is a text word
+pub record IsLoadable (ram : ℕ) (image : Image) : Type 0 where
+  pub segments : All (λ s. IsTrue (is_in_ram ram s.addr s.size)) image.segments
+  pub bytes : All (λ s. length s.bytes ≤ s.size) image.segments
+  pub text : All (λ r. IsTrue (is_in_ram ram r.first r.length)) image.text
+  pub aligned : image.entry % 4 ≡ 0
+  pub entry : IsTrue (is_text_word image.text image.entry)

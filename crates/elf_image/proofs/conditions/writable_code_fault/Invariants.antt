@@ -1,0 +1,7 @@
+use Rattle.std.proofs.Common.{◌≡◌, map, drop}
+use Rattle.elf_image.specs.Refusals.{first_fault, writable_code}
+use Rattle.elf_image.proofs.conditions.writable_code_fault.Given as goal
+
+-- the conditions of the headers so far do not hold
+abbrev pub invariant-loop-load : goal.invariant-loop-load
+invariant-loop-load l = first_fault (map (writable_code l.sections) (drop l.load-index l.loads)) ≡ first_fault (map (writable_code l.sections) l.loads)
