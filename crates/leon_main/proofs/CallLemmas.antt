@@ -4,14 +4,15 @@ use Rattle.std.proofs.lemmas.Bool.{cases_eq}
 use Rattle.std.specs.List.{AllByRecursion as Each, list_any}
 use Rattle.std.specs.Option.{IsSomeAnd}
 use Rattle.lf_io.specs.Count.{Rose}
-use Rattle.lf_io.specs.Held.{FileMap}
+use Rattle.lf_io.specs.Answers.{IsWhole}
+use Rattle.lf_io.specs.Held.{FileMap, content}
 use Rattle.lf_io.specs.Taken.{Takes}
 use Rattle.lf_model.specs.declared.image.Image.{Image}
 use Rattle.lf_model.specs.declared.trace.CoreEnd.{CoreEnd}
 use Rattle.lf_model.specs.declared.trace.CoreEnd.TheVariants.{Halt, Stop, Limit, Unbuilt}
 use Rattle.lf_model.specs.declared.trace.CoreResult.{CoreResult}
 use Rattle.leon_main.specs.Played.{IsNoStop, IsPlainResult, IsPlayed}
-use Rattle.leon_main.specs.Call.{image_name, image_limit, Spells, IsAnswer, text_of, is_stop, is_unbuilt, is_limit, status_of_cores, status_of, IsFaultless, IsStatus, IsRunStatus, file_of, setup_of, Decides}
+use Rattle.leon_main.specs.Call.{image_name, image_limit, Spells, Refuses, IsAnswer, IsFileAnswer, text_of, is_stop, is_unbuilt, is_limit, status_of_cores, status_of, IsFaultless, IsStatus, IsRunStatus, file_of, setup_of, Decides}
 use Rattle.leon_main.specs.declared.answer.Answer.{Answer}
 use Rattle.leon_main.specs.declared.answer.Answer.TheVariants.{Usage, Unread, TooLong, Refused, Played}
 
@@ -69,18 +70,21 @@ by_answer words held before after TooLong status cause own faultless = record {
   where
     not_both : {m n : ℕ} → m ≤ n → n < m → ⊥
     not_both h k = omega arith
-by_answer words held before after Refused status cause own faultless = record {
-  usage = λ none. absurd (none_and (image_name words) Refuses none cause);
-  too_long = λ name some long. let h = some_and (image_name words) Refuses name some cause in absurd (not_both h.0 long);
+by_answer words held before after (Refused number offset) status cause own faultless = record {
+  usage = λ none. absurd (none_and (image_name words) Refused_by none cause);
+  too_long = λ name some long. let h = some_and (image_name words) Refused_by name some cause in absurd (not_both h.0 long);
   refused = λ name some short no_image. own;
-  played = λ name image some short spells. let h = some_and (image_name words) Refuses name some cause in absurd (h.1 image spells);
+  played = λ name image some short spells. let h = some_and (image_name words) Refused_by name some cause in absurd (refused_is_no_image h.1 spells);
 }
   where
-    Refuses : List ℕ → Type 0
-    Refuses name = (length (file_of held name) ≤ image_limit) × ((image : Image) → Spells (file_of held name) image → ⊥)
+    Refused_by : List ℕ → Type 0
+    Refused_by name = (length (file_of held name) ≤ image_limit) × Refuses (file_of held name) number offset
 
     not_both : {m n : ℕ} → m ≤ n → n < m → ⊥
     not_both h k = omega arith
+
+    refused_is_no_image : {file : List ℕ} {image : Image} → Refuses file number offset → Spells file image → ⊥
+    refused_is_no_image r f = let e = sym f.accepted ∙ r.first in cc
 by_answer words held before after (Played trace) status cause own faultless = record {
   usage = λ none. absurd (none_and (image_name words) Plays none cause);
   too_long = λ name some long. let h = some_and (image_name words) Plays name some cause in absurd (not_both h.1.1.0 long);
@@ -106,3 +110,20 @@ decides words held before after old new answer status cause told faultless = by_
         | inr no_fault ↦ inl (told no_memory no_fault).0
       ]
     ]
+
+-- the answer to the bytes of a file that was read whole is the answer to the call
+of_content : (words : List (List ℕ)) (held : Option FileMap) (before after : List ℕ → ℕ) (name file : List ℕ) (told : Option (List ℕ)) (answer : Answer) → content held name ≡ told
+    → IsWhole told image_limit file → IsFileAnswer file answer → image_name words ≡ Some name → IsAnswer words held before after answer
+of_content words held before after name file None (Refused number offset) none whole cause named = rw (named, none) tt
+of_content words held before after name file (Some its) (Refused number offset) some whole cause named =
+    rw (named, some) (subst (λ (f : List ℕ). (length f ≤ image_limit) × Refuses f number offset) whole.whole (whole.within, cause))
+of_content words held before after name file None (Played trace) none whole cause named = rw (named, none) (cause.0, (cause.1.0, tt))
+of_content words held before after name file (Some its) (Played trace) some whole cause named =
+    rw (named, some) (cause.0, (cause.1.0, subst (λ (f : List ℕ). (length f ≤ image_limit) × Spells f cause.0) whole.whole (whole.within, cause.1.1)))
+of_content words held before after name file told Usage is whole cause named = absurd cause
+of_content words held before after name file told Unread is whole cause named = absurd cause
+of_content words held before after name file told TooLong is whole cause named = absurd cause
+
+pub of_file : (words : List (List ℕ)) (held : Option FileMap) (before after : List ℕ → ℕ) (name file : List ℕ) (answer : Answer)
+    → IsWhole (content held name) image_limit file → IsFileAnswer file answer → image_name words ≡ Some name → IsAnswer words held before after answer
+of_file words held before after name file answer whole cause named = of_content words held before after name file (content held name) answer refl whole cause named

@@ -1,20 +1,27 @@
 -- An instruction of a plain core retires or halts.
-use Rattle.std.proofs.Common.{◌≡◌, ℕ, ◌+◌, ◌%◌, ◌*◌, ◌^◌, ◌==◌, ◌++◌, Bool, true, false, List, [], ◌∷◌, Option, Some, None, cond, refl, sym, subst, ◌∙◌, inl, inr, option_map}
+use Rattle.std.proofs.Common.{◌≡◌, ℕ, ◌==◌, Bool, true, false, List, [], ◌∷◌, Option, Some, None, cond, refl, sym, subst, ◌∙◌, inl, inr, option_map}
 use Rattle.std.proofs.lemmas.Bool.{cases_Bool}
 use Rattle.std.proofs.lemmas.Option.{same_Some}
 use Rattle.std.specs.Prelude.{option_and_then}
 use Rattle.lf_model.specs.Start.{is_text_word, word_at, output_word}
-use Rattle.lf_model.specs.Opcodes.{instruction}
-use Rattle.lf_model.specs.State.{State, register, operand}
-use Rattle.lf_model.specs.Effect.{Site, Effect, operands, sets, trap_effect, calculated, result_of, trap_always, load_traps, store_traps, load_effect, store_effect, output_effect, unless_trap, sum_of_operands, load_word, put_word, store_word, memory, effect, fetch_trap}
+use Rattle.lf_model.specs.Instructions.{registers_read}
+use Rattle.lf_model.specs.State.{State, register}
+use Rattle.lf_model.specs.Effect.{Site, Effect, sum_of_operands}
+use Rattle.lf_model.specs.Traps.{trap_effect, unless_trap, fetch_trap}
+use Rattle.lf_model.specs.Memory.{output_effect, store_effect, word_effect, mem_effect}
+use Rattle.lf_model.specs.StateRegisters.{read_state_effect, write_state_effect}
+use Rattle.lf_model.specs.Effects.{ordinary_trap, completed, effect}
+use Rattle.lf_model.specs.Built.{built}
 use Rattle.lf_model.specs.Run.{site_of, effect_at_pc}
-use Rattle.lf_model.specs.Step.{first_bad, came_to}
+use Rattle.lf_model.specs.Step.{first_bad, access_row, barrier_row, came_to}
 use Rattle.lf_model.specs.declared.setup.Setup.{Setup}
 use Rattle.lf_model.specs.declared.instruction.Src.{Src}
+use Rattle.lf_model.specs.declared.instruction.StateName.{StateName}
+use Rattle.lf_model.specs.declared.instruction.StateName.TheVariants.{Y}
 use Rattle.lf_model.specs.declared.instruction.MemName.{MemName}
 use Rattle.lf_model.specs.declared.instruction.MemName.TheVariants.{Ld, St}
 use Rattle.lf_model.specs.declared.instruction.Instr.{Instr}
-use Rattle.lf_model.specs.declared.instruction.Instr.TheVariants.{Sethi, Calc, Ticc, Mem}
+use Rattle.lf_model.specs.declared.instruction.Instr.TheVariants.{Illegal, AltIllegal, FpOff, CpOff, FpQueue, CpQueue, Stbar, Call, Sethi, Bicc, Calc, Ticc, ReadState, ReadAsr, WriteState, WriteAsr, Jmpl, Flush, Mem}
 use Rattle.lf_model.specs.declared.step.Did.{Did}
 use Rattle.lf_model.specs.declared.step.Did.TheVariants.{Retired, Halt}
 use Rattle.leon_main.specs.Plain.{plain_parts, Comes}
@@ -33,9 +40,6 @@ ComesOf load s e = (did : Did) → did ≡ came_to (plain_parts load) s (Some e)
 retires : (load : ℕ → ℕ → ℕ) (s : State) (e : Effect) → came_to (plain_parts load) s (Some e) ≡ Retired → ComesOf load s e
 retires load s e here did is = subst (λ (d : Did). Comes s e d) (sym (is ∙ here)) tt
 
-sets_comes : (load : ℕ → ℕ → ℕ) (registers : List ℕ) (rd value : ℕ) (s : State) → ComesOf load s (sets registers rd value s)
-sets_comes load registers rd value s = retires load s (sets registers rd value s) (rw (none_bad load s.ctl.cwp registers) refl)
-
 halts : (et : Bool) (load : ℕ → ℕ → ℕ) (s : State) (tt_ : ℕ) (registers : List ℕ) → s.ctl.et ≡ et → ComesOf load s (trap_effect tt_ registers s)
 halts true load s tt_ registers enabled did is =
     retires load s (trap_effect tt_ registers s) (rw (none_bad load s.ctl.cwp registers, enabled) refl) did is
@@ -46,54 +50,79 @@ halts false load s tt_ registers disabled did is =
 trap_comes : (load : ℕ → ℕ → ℕ) (s : State) (tt_ : ℕ) (registers : List ℕ) → ComesOf load s (trap_effect tt_ registers s)
 trap_comes load s tt_ registers = halts s.ctl.et load s tt_ registers refl
 
-unless_comes : (load : ℕ → ℕ → ℕ) (trap : Option ℕ) (s : State) (e : Effect) → ComesOf load s e → ComesOf load s (unless_trap trap s e)
-unless_comes load None s e h = h
-unless_comes load (Some tt_) s e h = trap_comes load s tt_ e.reads
+-- an effect for which a plain core asks nothing
+record IsQuiet (load : ℕ → ℕ → ℕ) (e : Effect) : Type 0 where
+  pub trap : e.trap ≡ None
+  pub access : access_row (plain_parts load) e.access ≡ None
+  pub barrier : barrier_row (plain_parts load) e.barrier ≡ None
 
-load_comes : (load : ℕ → ℕ → ℕ) (registers : List ℕ) (addr len rd : ℕ) (s : State) → ComesOf load s (load_effect registers addr len rd s)
-load_comes load registers addr len rd s = retires load s (load_effect registers addr len rd s) (rw (none_bad load s.ctl.cwp registers) refl)
+quiet_comes : (load : ℕ → ℕ → ℕ) (s : State) (e : Effect) → IsQuiet load e → ComesOf load s e
+quiet_comes load s e q = retires load s e (rw (none_bad load s.ctl.cwp e.reads, q.trap, q.access, q.barrier) refl)
 
-store_comes : (load : ℕ → ℕ → ℕ) (registers : List ℕ) (addr len value : ℕ) (s : State) → ComesOf load s (store_effect registers addr len value s)
-store_comes load registers addr len value s = retires load s (store_effect registers addr len value s) (rw (none_bad load s.ctl.cwp registers) refl)
+is_some_of : (load : ℕ → ℕ → ℕ) (e f : Effect) → Some e ≡ Some f → IsQuiet load e → IsQuiet load f
+is_some_of load e f is q = subst (λ (x : Effect). IsQuiet load x) (same_Some e f is) q
 
-output_comes : (load : ℕ → ℕ → ℕ) (registers : List ℕ) (value : ℕ) (s : State) → ComesOf load s (output_effect registers value s)
-output_comes load registers value s = retires load s (output_effect registers value s) (rw (none_bad load s.ctl.cwp registers) refl)
+plainly : (load : ℕ → ℕ → ℕ) (e : Effect) → e.trap ≡ None → access_row (plain_parts load) e.access ≡ None → barrier_row (plain_parts load) e.barrier ≡ None → IsQuiet load e
+plainly load e trap access barrier = record { trap = trap; access = access; barrier = barrier }
 
-put_by : (load : ℕ → ℕ → ℕ) (site : Site) (registers : List ℕ) (addr value : ℕ) (s : State) (output : Bool)
-    → ComesOf load s (cond output (output_effect registers value s) (unless_trap (store_traps site addr 4) s (store_effect registers addr 4 value s)))
-put_by load site registers addr value s true = output_comes load registers value s
-put_by load site registers addr value s false =
-    unless_comes load (store_traps site addr 4) s (store_effect registers addr 4 value s) (store_comes load registers addr 4 value s)
+word_quiet : (load : ℕ → ℕ → ℕ) (registers : List ℕ) (addr value : ℕ) (s : State) (output : Bool)
+    → IsQuiet load (cond output (output_effect registers value s) (store_effect registers addr 4 value s))
+word_quiet load registers addr value s true = plainly load (output_effect registers value s) refl refl refl
+word_quiet load registers addr value s false = plainly load (store_effect registers addr 4 value s) refl refl refl
 
-put_comes : (load : ℕ → ℕ → ℕ) (site : Site) (registers : List ℕ) (addr value : ℕ) (s : State) → ComesOf load s (put_word site registers addr value s)
-put_comes load site registers addr value s = put_by load site registers addr value s (addr == output_word)
+mem_quiet : (load : ℕ → ℕ → ℕ) (registers : List ℕ) (name : MemName) (rd rs1 : ℕ) (src : Src) (s : State) (e : Effect) → mem_effect registers name rd rs1 src s ≡ Some e → IsQuiet load e
+mem_quiet load registers Ld rd rs1 src s e is = is_some_of load _ e is (plainly load _ refl refl refl)
+mem_quiet load registers St rd rs1 src s e is =
+    is_some_of load (word_effect registers (sum_of_operands s rs1 src) (register s rd) s) e is
+    (word_quiet load registers (sum_of_operands s rs1 src) (register s rd) s (sum_of_operands s rs1 src == output_word))
+mem_quiet load registers _ rd rs1 src s e is = absurd cc
+
+read_quiet : (load : ℕ → ℕ → ℕ) (registers : List ℕ) (name : StateName) (rd : ℕ) (s : State) (e : Effect) → read_state_effect registers name rd s ≡ Some e → IsQuiet load e
+read_quiet load registers Y rd s e is = is_some_of load _ e is (plainly load _ refl refl refl)
+read_quiet load registers _ rd s e is = absurd cc
+
+write_quiet : (load : ℕ → ℕ → ℕ) (registers : List ℕ) (name : StateName) (rs1 : ℕ) (src : Src) (s : State) (e : Effect) → write_state_effect registers name rs1 src s ≡ Some e → IsQuiet load e
+write_quiet load registers Y rs1 src s e is = is_some_of load _ e is (plainly load _ refl refl refl)
+write_quiet load registers _ rs1 src s e is = absurd cc
+
+completed_quiet : (load : ℕ → ℕ → ℕ) (registers : List ℕ) (site : Site) (s : State) (i : Instr) (e : Effect) → completed registers site s i ≡ Some e → IsQuiet load e
+completed_quiet load registers site s (Call disp30) e is = is_some_of load _ e is (plainly load _ refl refl refl)
+completed_quiet load registers site s (Sethi rd imm22) e is = is_some_of load _ e is (plainly load _ refl refl refl)
+completed_quiet load registers site s (Bicc condition a disp22) e is = is_some_of load _ e is (plainly load _ refl refl refl)
+completed_quiet load registers site s (Calc name rd rs1 src) e is = is_some_of load _ e is (plainly load _ refl refl refl)
+completed_quiet load registers site s (Jmpl rd rs1 src) e is = is_some_of load _ e is (plainly load _ refl refl refl)
+completed_quiet load registers site s (ReadState name rd) e is = read_quiet load registers name rd s e is
+completed_quiet load registers site s (ReadAsr rd rs1) e is = is_some_of load _ e is (plainly load _ refl refl refl)
+completed_quiet load registers site s (WriteState name rs1 src) e is = write_quiet load registers name rs1 src s e is
+completed_quiet load registers site s (Mem name rd rs1 src) e is = mem_quiet load registers name rd rs1 src s e is
+completed_quiet load registers site s Stbar e is = is_some_of load _ e is (plainly load _ refl refl refl)
+completed_quiet load registers site s (Flush rs1 src) e is = is_some_of load _ e is (plainly load _ refl refl refl)
+completed_quiet load registers site s (WriteAsr rd rs1 src) e is = is_some_of load _ e is (plainly load _ refl refl refl)
+completed_quiet load registers site s (Ticc condition rs1 src) e is = is_some_of load _ e is (plainly load _ refl refl refl)
+completed_quiet load registers site s Illegal e is = is_some_of load _ e is (plainly load _ refl refl refl)
+completed_quiet load registers site s AltIllegal e is = is_some_of load _ e is (plainly load _ refl refl refl)
+completed_quiet load registers site s FpOff e is = is_some_of load _ e is (plainly load _ refl refl refl)
+completed_quiet load registers site s FpQueue e is = is_some_of load _ e is (plainly load _ refl refl refl)
+completed_quiet load registers site s CpOff e is = is_some_of load _ e is (plainly load _ refl refl refl)
+completed_quiet load registers site s CpQueue e is = is_some_of load _ e is (plainly load _ refl refl refl)
+completed_quiet load registers site s _ e is = absurd cc
+
+unless_comes : (load : ℕ → ℕ → ℕ) (trap : Option ℕ) (s : State) (e : Effect) → IsQuiet load e → ComesOf load s (unless_trap trap s e)
+unless_comes load None s e q = quiet_comes load s e q
+unless_comes load (Some tt_) s e q = trap_comes load s tt_ e.reads
 
 of_some : (load : ℕ → ℕ → ℕ) (s : State) (e f : Effect) → Some e ≡ Some f → ComesOf load s e → ComesOf load s f
 of_some load s e f is h = subst (λ (x : Effect). ComesOf load s x) (same_Some e f is) h
 
-calc_comes : (load : ℕ → ℕ → ℕ) (rd rs1 : ℕ) (src : Src) (s : State) (result : Option ℕ) (e : Effect) → option_map (calculated rd rs1 src s) result ≡ Some e → ComesOf load s e
-calc_comes load rd rs1 src s None e is = absurd cc
-calc_comes load rd rs1 src s (Some value) e is = of_some load s (calculated rd rs1 src s value) e is (sets_comes load (operands rs1 src) rd value s)
-
-memory_comes : (load : ℕ → ℕ → ℕ) (site : Site) (name : MemName) (rd rs1 : ℕ) (src : Src) (s : State) (e : Effect) → memory site name rd rs1 src s ≡ Some e → ComesOf load s e
-memory_comes load site Ld rd rs1 src s e is = of_some load s (load_word site rd rs1 src s) e is
-    (unless_comes load (load_traps site (sum_of_operands s rs1 src) 4) s (load_effect (operands rs1 src) (sum_of_operands s rs1 src) 4 rd s)
-    (load_comes load (operands rs1 src) (sum_of_operands s rs1 src) 4 rd s))
-memory_comes load site St rd rs1 src s e is = of_some load s (store_word site rd rs1 src s) e is
-    (put_comes load site (operands rs1 src ++ rd ∷ []) (sum_of_operands s rs1 src) (register s rd) s)
-memory_comes load site _ rd rs1 src s e is = absurd cc
-
-ticc_comes : (load : ℕ → ℕ → ℕ) (rs1 : ℕ) (src : Src) (s : State) (e : Effect) (always : Bool) → cond always (Some (trap_always rs1 src s)) None ≡ Some e → ComesOf load s e
-ticc_comes load rs1 src s e true is = of_some load s (trap_always rs1 src s) e is (trap_comes load s (128 + sum_of_operands s rs1 src % 128) (operands rs1 src))
-ticc_comes load rs1 src s e false is = absurd cc
+trapped_comes : (load : ℕ → ℕ → ℕ) (trap : Option ℕ) (s : State) (done : Option Effect) (e : Effect) → ((x : Effect) → done ≡ Some x → IsQuiet load x)
+    → option_map (unless_trap trap s) done ≡ Some e → ComesOf load s e
+trapped_comes load trap s None e quiet is = absurd cc
+trapped_comes load trap s (Some x) e quiet is = of_some load s (unless_trap trap s x) e is (unless_comes load trap s x (quiet x refl))
 
 effect_comes : (load : ℕ → ℕ → ℕ) (site : Site) (s : State) (i : Instr) (e : Effect) → effect site s i ≡ Some e → ComesOf load s e
 unfolding effect
-effect_comes load site s (Sethi rd imm22) e is = of_some load s (sets [] rd (imm22 * 2 ^ 10) s) e is (sets_comes load [] rd (imm22 * 2 ^ 10) s)
-effect_comes load site s (Calc name rd rs1 src) e is = calc_comes load rd rs1 src s (result_of name (register s rs1) (operand s src)) e is
-effect_comes load site s (Ticc condition rs1 src) e is = ticc_comes load rs1 src s e (condition == 8) is
-effect_comes load site s (Mem name rd rs1 src) e is = memory_comes load site name rd rs1 src s e is
-effect_comes load site s _ e is = absurd cc
+effect_comes load site s i e is = trapped_comes load (ordinary_trap site s i) s (completed (registers_read i) site s i) e
+    (λ x. completed_quiet load (registers_read i) site s i x) is
 
 word_comes : (load : ℕ → ℕ → ℕ) (site : Site) (s : State) (i : Option Instr) (e : Effect) → option_and_then (effect site s) i ≡ Some e → ComesOf load s e
 word_comes load site s None e is = absurd cc
@@ -103,6 +132,6 @@ pub comes : (load : ℕ → ℕ → ℕ) (setup : Setup) (c : ℕ) (s : State) (
     → (did : Did) → did ≡ came_to (plain_parts load) s (Some e) → Comes s e did
 unfolding effect_at_pc
 comes load setup c s e is = elim (cases_Bool (is_text_word setup.image.text s.ctl.pc)) [
-  | inl text ↦ word_comes load (site_of setup c) s (instruction (word_at setup.image s.ctl.pc)) e (rw text at is)
+  | inl text ↦ word_comes load (site_of setup c) s (built (word_at setup.image s.ctl.pc)) e (rw text at is)
   | inr other ↦ of_some load s (fetch_trap s) e (rw other at is) (trap_comes load s 0x01 [])
 ]

@@ -5,6 +5,7 @@ use Rattle.std.specs.List.{AllByRecursion as Each}
 use Rattle.std.specs.Vec.{vec_capacity}
 use Rattle.std.specs.declared.alloc.Global.{Global}
 use Rattle.lf_model.specs.Operation.{made, is_lost}
+use Rattle.lf_model.specs.Effect.{Site}
 use Rattle.lf_model.specs.Run.{Run, run, site_of, effect_at_pc}
 use Rattle.lf_model.specs.State.{cell, reset, reset_control}
 use Rattle.lf_model.specs.declared.bus.Entry.{Entry}
@@ -53,6 +54,7 @@ by_did : (setup : Setup) (n : ℕ) (did : Did) (arch arch' : Arch) (ports ports'
 by_did setup n Retired arch arch' ports ports' order order' t = record {
   run = t.steps t.going.run;
   sound = t.counts.sound;
+  core = t.counts.core ∙ t.going.core ∙ sym (ap (λ (site : Site). site.core) t.counts.site);
   n = omega (arith, t.counts.n, t.going.n);
   k = omega (arith, t.counts.k, t.going.k, ports.ram.ops.ok.0, ports'.ram.ops.ok.0);
   few = omega (arith, t.counts.k, t.going.few, t.most);
@@ -136,6 +138,7 @@ started setup arch ports order control rest cells empty site room none zero_is s
     tbr = rw control refl;
     core = rw rest.2 (lit< tt);
   };
+  core = rest.2 ∙ sym (ap (λ (its : Site). its.core) site);
   n = rest.3;
   k = rest.4 ∙ sym empty.2;
   few = omega (arith, rest.4);

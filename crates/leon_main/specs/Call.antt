@@ -1,5 +1,5 @@
 -- What the program answers to a call: a line that tells why not, or a report.
-use Rattle.std.specs.Prelude.{ℕ, ◌≡◌, ◌<◌, ◌≤◌, ◌&&◌, ◌⊎◌, unwrap_or, not, true, false, Bool, List, [], ◌∷◌, length, codes, Option, Some, None, IfSome, IsSomeAnd, if◌then◌else◌, nat_eq}
+use Rattle.std.specs.Prelude.{ℕ, ◌≡◌, ◌<◌, ◌≤◌, ◌&&◌, ◌⊎◌, unwrap_or, not, true, false, Bool, List, [], ◌∷◌, ◌++◌, length, codes, Option, Some, None, IfSome, IsSomeAnd, if◌then◌else◌, nat_eq}
 use Rattle.std.specs.List.{list_any, starts_with}
 use Rattle.std.specs.Cmp.Lexicographic.{pointwise}
 use Rattle.lf_io.specs.Count.{Rose}
@@ -12,7 +12,9 @@ use Rattle.lf_model.specs.declared.setup.Setup.{Setup}
 use Rattle.lf_model.specs.declared.trace.CoreEnd.{CoreEnd}
 use Rattle.lf_model.specs.declared.trace.CoreEnd.TheVariants.{Halt, Stop, Limit, Unbuilt}
 use Rattle.lf_model.specs.declared.trace.CoreResult.{CoreResult}
-use Rattle.elf_image.specs.FirstForm.{IsFileOf}
+use Rattle.elf_image.specs.Answer.{IsFileOf, IsRefused}
+use Rattle.elf_image.specs.Names.{refusal_name}
+use Rattle.lf_model.specs.Texts.{number, line_feed}
 use Rattle.leon_main.specs.Played.{IsPlayed}
 use Rattle.leon_main.specs.declared.answer.Answer.{Answer}
 use Rattle.leon_main.specs.declared.answer.Answer.TheVariants.{Usage, Unread, TooLong, Refused, Played}
@@ -56,13 +58,17 @@ setup_of image = record { image = image; config = default_config; flips = [] }
 abbrev pub Spells : List ℕ → Image → Type 0
 Spells file image = IsFileOf 1048576 file image
 
+-- the file is refused for the default RAM, by the refusal with this number at this offset
+abbrev pub Refuses : List ℕ → ℕ → ℕ → Type 0
+Refuses file number_ offset = IsRefused 1048576 file number_ offset
+
 -- why each answer comes, of the files as they are told and of the counts of their faults
 abbrev pub IsAnswer : List (List ℕ) → Option FileMap → (List ℕ → ℕ) → (List ℕ → ℕ) → Answer → Type 0
 IsAnswer words held before after Usage = image_name words ≡ None
 IsAnswer words held before after Unread = IsSomeAnd (image_name words) (λ name. Rose (before name) (after name))
 IsAnswer words held before after TooLong = IsSomeAnd (image_name words) (λ name. IfSome (content held name) (λ file. image_limit < length file))
-IsAnswer words held before after Refused = IsSomeAnd (image_name words) (λ name. IfSome (content held name) (λ file.
-    (length file ≤ image_limit) × ((image : Image) → Spells file image → ⊥)))
+IsAnswer words held before after (Refused number_ offset) = IsSomeAnd (image_name words) (λ name. IfSome (content held name) (λ file.
+    (length file ≤ image_limit) × Refuses file number_ offset))
 IsAnswer words held before after (Played trace) = IsSomeAnd (image_name words) (λ name. (image : Image) × (IsPlayed (setup_of image) trace
     × IfSome (content held name) (λ file. (length file ≤ image_limit) × Spells file image)))
 
@@ -71,7 +77,7 @@ abbrev pub text_of : Answer → List ℕ
 text_of Usage = codes "error 2 usage\n"
 text_of Unread = codes "error 3 image\n"
 text_of TooLong = codes "error 12 image 67108864\n"
-text_of Refused = codes "error 4 Unbuilt 0\n"
+text_of (Refused number_ offset) = codes "error 4 " ++ refusal_name number_ ++ codes " " ++ number line_feed offset
 text_of (Played trace) = report trace
 
 abbrev pub is_stop : CoreResult → Bool
@@ -111,7 +117,7 @@ abbrev pub status_of : Answer → ℕ
 status_of Usage = 2
 status_of Unread = 3
 status_of TooLong = 12
-status_of Refused = 4
+status_of (Refused number_ offset) = 4
 status_of (Played trace) = status_of_cores trace.cores
 
 -- why each answer comes of the bytes of an image file
@@ -119,7 +125,7 @@ abbrev pub IsFileAnswer : List ℕ → Answer → Type 0
 IsFileAnswer file Usage = ⊥
 IsFileAnswer file Unread = ⊥
 IsFileAnswer file TooLong = ⊥
-IsFileAnswer file Refused = (image : Image) → Spells file image → ⊥
+IsFileAnswer file (Refused number_ offset) = Refuses file number_ offset
 IsFileAnswer file (Played trace) = (image : Image) × (IsPlayed (setup_of image) trace × Spells file image)
 
 -- the call answered with this status, and its text was taken whole

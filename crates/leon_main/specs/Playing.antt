@@ -36,6 +36,7 @@ run_of arch ports = run_seen arch (seen_of ports)
 pub record Going (setup : Setup) (steps : ℕ) (arch : Arch) (ports : Plain) (order : Vec Op Global) : Type 0 where
   pub run : RunIs setup steps (run_of arch ports)
   pub sound : IsSound arch
+  pub core : arch.core ≡ (seen_of ports).site.core
   pub n : arch.n ≡ steps
   pub k : arch.k ≡ vec_len ports.ram.ops
   pub few : arch.k ≤ steps

@@ -1,8 +1,9 @@
 ghost use Rattle.std.specs.Prelude.{◌≡◌, IfOk};
 ghost use Rattle.std.specs.List.{list_any};
-ghost use Rattle.leon_main.specs.Call.{status_of_cores, is_stop, is_unbuilt, is_limit};
+ghost use Rattle.leon_main.specs.Call.{status_of_cores, is_stop, is_unbuilt, is_limit, text_of};
 
 use crate::report;
+use crate::report::fields::{put, put_number};
 use lf_model::trace::{CoreEnd, CoreResult, Trace};
 use std::alloc::{AllocError, Global};
 
@@ -15,8 +16,13 @@ pub enum Answer {
     Unread,
     /// The image has more than 67,108,864 bytes.
     TooLong,
-    /// The image is not of the form that is read so far.
-    Refused,
+    /// The image is refused.
+    Refused {
+        /// The number of the refusal.
+        number: u8,
+        /// The place in the file that it tells, in bytes.
+        offset: u32,
+    },
     /// The image ran.
     Played(Trace),
 }
@@ -61,6 +67,17 @@ fn status_of_cores(cores: &[CoreResult]) -> u8
     }
 }
 
+/// The line that tells why an image is refused.
+fn refusal_line(alloc: Global, number: u8, offset: u32) -> Result<Vec<u8>, AllocError>
+    ensures { IfOk result (λ text. text.items ≡ text_of (Answer.Refused number offset)) }
+{
+    let mut text = Vec::from_slice(alloc, b"error 4 ")?;
+    put(&mut text, elf_image::refusal_name(number).as_bytes())?;
+    put(&mut text, b" ")?;
+    put_number(&mut text, b'\n', u64::from(offset))?;
+    Ok(text)
+}
+
 impl Answer {
     ghost use Rattle.leon_main.specs.Call.{text_of, status_of};
 
@@ -72,7 +89,7 @@ impl Answer {
             Answer::Usage => 2,
             Answer::Unread => 3,
             Answer::TooLong => 12,
-            Answer::Refused => 4,
+            Answer::Refused { .. } => 4,
             Answer::Played(trace) => status_of_cores(trace.cores.as_slice()),
         }
     }
@@ -85,7 +102,7 @@ impl Answer {
             Answer::Usage => Vec::from_slice(alloc, b"error 2 usage\n"),
             Answer::Unread => Vec::from_slice(alloc, b"error 3 image\n"),
             Answer::TooLong => Vec::from_slice(alloc, b"error 12 image 67108864\n"),
-            Answer::Refused => Vec::from_slice(alloc, b"error 4 Unbuilt 0\n"),
+            Answer::Refused { number, offset } => refusal_line(alloc, *number, *offset),
             Answer::Played(trace) => report::report_of(alloc, trace),
         }
     }

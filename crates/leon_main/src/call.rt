@@ -74,7 +74,7 @@ fn play_file(alloc: Global, bytes: &[u8]) -> Result<Answer, AllocError>
             let trace = play::play(alloc, &setup)?;
             Ok(Answer::Played(trace))
         }
-        Err(ImageErr::Refused { .. }) => Ok(Answer::Refused),
+        Err(ImageErr::Refused { number, offset }) => Ok(Answer::Refused { number, offset }),
         Err(ImageErr::Memory) => Err(AllocError),
     }
 }

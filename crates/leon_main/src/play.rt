@@ -27,6 +27,7 @@ use std::alloc::{AllocError, Global};
 fn execute(setup: &Setup, arch: &mut Arch, ports: &mut Plain) -> Did
     requires site { (seen_of ports.old).site ≡ site_of setup.now 0 }
     requires sound { IsSound arch.old }
+    requires core { arch.old.core ≡ (seen_of ports.old).site.core }
     requires instructions { arch.old.n + 1 < 2 ^ 32 }
     requires operations { arch.old.k + 1 < 2 ^ 32 }
     requires room { 0 < room_of ports.old }

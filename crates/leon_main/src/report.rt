@@ -1,7 +1,7 @@
 //! The report of a run: its text, written from the trace that the run leaves.
 
 mod cores;
-mod fields;
+pub mod fields;
 mod outcome;
 #[cfg(test)]
 mod tests;

@@ -3,128 +3,106 @@ use lf_io::{CleanFiles, CleanSink, MemFiles, MemSink};
 use std::alloc::{AllocError, Global};
 use std::test::Fail;
 
-/// The ELF header and the program header of a read-and-execute segment of 20 bytes at 40000000 hex, its entry.
-const HEADERS: [u8; 84] = [
+mod integer;
+
+/// The ELF header, and the program header of a read-and-execute segment at 40000000 hex, its entry, to p_filesz.
+const HEADERS: [u8; 68] = [
     0x7f, 0x45, 0x4c, 0x46, 0x01, 0x02, 0x01, 0x00, 0x00, 0x00, 0x00, 0x00, 0x00, 0x00, 0x00, 0x00,
     0x00, 0x02, 0x00, 0x02, 0x00, 0x00, 0x00, 0x01, 0x40, 0x00, 0x00, 0x00, 0x00, 0x00, 0x00, 0x34,
     0x00, 0x00, 0x00, 0x00, 0x00, 0x00, 0x00, 0x00, 0x00, 0x34, 0x00, 0x20, 0x00, 0x01, 0x00, 0x28,
     0x00, 0x00, 0x00, 0x00, 0x00, 0x00, 0x00, 0x01, 0x00, 0x00, 0x00, 0x54, 0x40, 0x00, 0x00, 0x00,
-    0x40, 0x00, 0x00, 0x00, 0x00, 0x00, 0x00, 0x14, 0x00, 0x00, 0x00, 0x14, 0x00, 0x00, 0x00, 0x05,
-    0x00, 0x00, 0x00, 0x04,
+    0x40, 0x00, 0x00, 0x00,
 ];
 
-/// A program of five words, and what its report tells.
+/// A program, the status of its run, and what its report tells.
 #[derive(Clone, Copy)]
 struct Row {
-    words: [u32; 5],
+    words: &'static [u32],
     status: u8,
     end: &'static str,
     out: &'static str,
     globals: &'static str,
     outs: &'static str,
+    psr: &'static str,
+    y: &'static str,
     pcs: &'static str,
     order: &'static str,
 }
 
 /// Registers that hold 0.
-const ZEROS: &str = "00000000 00000000 00000000 00000000 00000000 00000000";
+const ZEROS: &str = "00000000 00000000 00000000 00000000 00000000 00000000 00000000 00000000";
+
+/// What most programs leave: each differs in some of it.
+const ZERO: Row = Row {
+    words: &[],
+    status: 0,
+    end: "",
+    out: "-",
+    globals: ZEROS,
+    outs: ZEROS,
+    psr: "F3000080",
+    y: "00000000",
+    pcs: "40000000 40000004",
+    order: "0",
+};
 
 /// SETHI and OR make a byte, ST writes it to the output word, and Ticc halts the core.
 const OUTPUT: Row = Row {
-    words: [
+    words: &[
         0x0320_0000,
         0x9010_2041,
         0xd020_6100,
         0x91d0_2000,
         0x0100_0000,
     ],
-    status: 0,
     end: "halt 80 4 4",
     out: "41",
-    globals: "00000000 80000000",
-    outs: "00000041 00000000",
+    globals: "00000000 80000000 00000000 00000000 00000000 00000000 00000000 00000000",
+    outs: "00000041 00000000 00000000 00000000 00000000 00000000 00000000 00000000",
     pcs: "4000000C 40000010",
-    order: "0",
+    ..ZERO
 };
 
-fn rows() -> [Row; 6] {
-    [
-        OUTPUT,
-        // A word is stored to 40001000 and loaded from there.
-        Row {
-            words: [
-                0x0310_0004,
-                0x9010_2041,
-                0xd020_6000,
-                0xd200_6000,
-                0x91d0_2000,
-            ],
-            status: 0,
-            end: "halt 80 5 5",
-            out: "-",
-            globals: "00000000 40001000",
-            outs: "00000041 00000041",
-            pcs: "40000010 40000014",
-            order: "2\nS 0 0 2 40001000 00000041\nL 0 1 3 40001000 00000041 0",
-        },
-        // SAVE is not built.
-        Row {
-            words: [0x81e0_2000, 0, 0, 0, 0],
-            status: 13,
-            end: "unbuilt 0 1",
-            out: "-",
-            globals: "00000000 00000000",
-            outs: "00000000 00000000",
-            pcs: "40000000 40000004",
-            order: "0",
-        },
-        // SETHI, ADD, SUB and AND, and LD traps at 3FFFFFFE.
-        Row {
-            words: [
-                0x0310_0000,
-                0x8200_7ffe,
-                0x9220_6005,
-                0x9008_60ff,
-                0xd000_4000,
-            ],
-            status: 0,
-            end: "halt 07 5 5",
-            out: "-",
-            globals: "00000000 3FFFFFFE",
-            outs: "000000FE 3FFFFFF9",
-            pcs: "40000010 40000014",
-            order: "0",
-        },
-        // A store into the text.
-        Row {
-            words: [0x0310_0000, 0xd020_6000, 0, 0, 0],
-            status: 0,
-            end: "halt 09 2 2",
-            out: "-",
-            globals: "00000000 40000000",
-            outs: "00000000 00000000",
-            pcs: "40000004 40000008",
-            order: "0",
-        },
-        // Five times SETHI of 0 to register 0, and then no text.
-        Row {
-            words: [
-                0x0100_0000,
-                0x0100_0000,
-                0x0100_0000,
-                0x0100_0000,
-                0x0100_0000,
-            ],
-            status: 0,
-            end: "halt 01 6 6",
-            out: "-",
-            globals: "00000000 00000000",
-            outs: "00000000 00000000",
-            pcs: "40000014 40000018",
-            order: "0",
-        },
-    ]
-}
+const ROWS: [Row; 5] = [
+    OUTPUT,
+    // A word is stored to 40001000 and loaded from there.
+    Row {
+        words: &[
+            0x0310_0004,
+            0x9010_2041,
+            0xd020_6000,
+            0xd200_6000,
+            0x91d0_2000,
+        ],
+        end: "halt 80 5 5",
+        globals: "00000000 40001000 00000000 00000000 00000000 00000000 00000000 00000000",
+        outs: "00000041 00000041 00000000 00000000 00000000 00000000 00000000 00000000",
+        pcs: "40000010 40000014",
+        order: "2\nS 0 0 2 40001000 00000041\nL 0 1 3 40001000 00000041 0",
+        ..ZERO
+    },
+    // SAVE is not built.
+    Row {
+        words: &[0x81e0_2000],
+        status: 13,
+        end: "unbuilt 0 1",
+        ..ZERO
+    },
+    // LDUB is not built.
+    Row {
+        words: &[0xc008_2003],
+        status: 13,
+        end: "unbuilt 0 1",
+        ..ZERO
+    },
+    // A loop that does not end.
+    Row {
+        words: &[0x1080_0000, 0x0100_0000],
+        status: 11,
+        end: "limit 100000 100000",
+        ..ZERO
+    },
+];
 
 /// The whole report of a row.
 fn report(alloc: Global, row: &Row) -> Result<String, AllocError> {
@@ -132,20 +110,28 @@ fn report(alloc: Global, row: &Row) -> Result<String, AllocError> {
         "leon3ft report 1\ncores 1\ncore 0 {}\nout 0 {}\n",
         row.end, row.out
     )?;
-    let registers = format!(in alloc; "g 0 {} {ZEROS}\no 0 {} {ZEROS}\n", row.globals, row.outs)?;
-    let others = "l 0 00000000 00000000 00000000 00000000 00000000 00000000 00000000 00000000
-i 0 00000000 00000000 00000000 00000000 00000000 00000000 00000000 00000000
-ctl 0 F3000080 00000002 00000000 00000000";
+    let registers = format!(in alloc;
+        "g 0 {}\no 0 {}\nl 0 {ZEROS}\ni 0 {ZEROS}\n",
+        row.globals, row.outs
+    )?;
+    let control = format!(in alloc;
+        "ctl 0 {} 00000002 00000000 {} {}\n",
+        row.psr, row.y, row.pcs
+    )?;
     let tail = "parity 0 0 0 0 0\nahb 00000000 00000000\ntransfers 0";
     format!(in alloc;
-        "{head}{registers}{others} {}\n{tail}\norder {}\nflips 0\nwatch 0\nend\n",
-        row.pcs, row.order
+        "{head}{registers}{control}{tail}\norder {}\nflips 0\nwatch 0\nend\n",
+        row.order
     )
 }
 
 /// The file of a program.
 fn image(alloc: Global, words: &[u32]) -> Result<Vec<u8>, AllocError> {
+    let size = (4 * words.len() as u32).to_be_bytes();
     let mut bytes = Vec::from_slice(alloc, &HEADERS)?;
+    bytes.extend_from_slice(&size)?;
+    bytes.extend_from_slice(&size)?;
+    bytes.extend_from_slice(&[0, 0, 0, 5, 0, 0, 0, 4])?;
     for word in words {
         bytes.extend_from_slice(&word.to_be_bytes())?;
     }
@@ -183,18 +169,19 @@ fn played_clean(alloc: Global, program: &[u32]) -> Result<u8, AllocError> {
     Ok(plain_call(alloc, &words, &mut files, &mut CleanSink::new()))
 }
 
+/// The program runs to the status and the report of a row.
+fn is_told(alloc: Global, program: &[u32], row: &Row) -> Result<bool, AllocError> {
+    let (status, out) = played(alloc, program, &[], &[])?;
+    let text = report(alloc, row)?;
+    Ok(status == row.status && out.taken() == text.as_bytes())
+}
+
 #[test]
 fn programs_run_to_their_reports(rt: HostRuntime) -> Result<(), Fail> {
     let alloc = rt.alloc();
-    for row in rows() {
-        let first = row.words[0];
-        let (status, out) = played(alloc, &row.words, &[], &[])?;
-        assert_eq!(rt; status, row.status, "{first}");
-        let text = report(alloc, &row)?;
-        let same = out.taken() == text.as_bytes();
-        assert!(rt; same, "{first}");
-        let clean = played_clean(alloc, &row.words)?;
-        assert_eq!(rt; clean, row.status, "{first}");
+    for (i, row) in ROWS.iter().enumerate() {
+        assert!(rt; is_told(alloc, row.words, row)?, "row {i}");
+        assert_eq!(rt; played_clean(alloc, row.words)?, row.status, "row {i}");
     }
     Ok(())
 }
@@ -203,9 +190,8 @@ fn programs_run_to_their_reports(rt: HostRuntime) -> Result<(), Fail> {
 fn other_calls_are_refused(rt: HostRuntime) -> Result<(), Fail> {
     let alloc = rt.alloc();
     let mut files = MemFiles::new(alloc, &[])?;
-    files.put("image", &image(alloc, &OUTPUT.words)?)?;
+    files.put("image", &image(alloc, OUTPUT.words)?)?;
     files.put("short", &HEADERS[..51])?;
-    files.put("empty segment", &HEADERS)?;
     files.put("long", &vec![in alloc; 0; 67_108_865]?)?;
     let calls: [(&[&str], u8, &str); 9] = [
         (&[], 2, "error 2 usage\n"),
@@ -215,7 +201,7 @@ fn other_calls_are_refused(rt: HostRuntime) -> Result<(), Fail> {
         (&["leon3ft", "play", "-image"], 2, "error 2 usage\n"),
         (&["leon3ft", "play", "image", "image"], 2, "error 2 usage\n"),
         (&["leon3ft", "play", "absent"], 3, "error 3 image\n"),
-        (&["leon3ft", "play", "short"], 4, "error 4 Unbuilt 0\n"),
+        (&["leon3ft", "play", "short"], 4, "error 4 Short 51\n"),
         (
             &["leon3ft", "play", "long"],
             12,
@@ -238,7 +224,7 @@ fn each_read_and_each_write_fails_in_turn(rt: HostRuntime) -> Result<(), Fail> {
     let text = report(alloc, &OUTPUT)?;
     let mut last = 0;
     for call in 1..100 {
-        let (status, out) = played(alloc, &OUTPUT.words, &[call], &[])?;
+        let (status, out) = played(alloc, OUTPUT.words, &[call], &[])?;
         if status == 0 {
             break;
         }
@@ -249,7 +235,7 @@ fn each_read_and_each_write_fails_in_turn(rt: HostRuntime) -> Result<(), Fail> {
     }
     assert!(rt; 0 < last && last < 99, "{last} reads");
     for call in 1..100 {
-        let (status, out) = played(alloc, &OUTPUT.words, &[], &[call])?;
+        let (status, out) = played(alloc, OUTPUT.words, &[], &[call])?;
         if status == 0 {
             return Ok(());
         }
