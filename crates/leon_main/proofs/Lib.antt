@@ -5,7 +5,5 @@ mod RamLemmas
 mod StepLemmas
 mod OrderLemmas
 mod PlayLemmas
-mod ReportDigits
-mod ReportLists
 mod PlayedLemmas
 mod CallLemmas

@@ -2,9 +2,8 @@ ghost use Rattle.std.specs.Prelude.{◌≡◌, IfOk};
 ghost use Rattle.std.specs.List.{list_any};
 ghost use Rattle.leon_main.specs.Call.{status_of_cores, is_stop, is_unbuilt, is_limit, text_of};
 
-use crate::report;
-use crate::report::fields::{put, put_number};
 use lf_model::trace::{CoreEnd, CoreResult, Trace};
+use report_text::fields::{put, put_number};
 use std::alloc::{AllocError, Global};
 
 /// What the program answers to a call.
@@ -103,7 +102,7 @@ impl Answer {
             Answer::Unread => Vec::from_slice(alloc, b"error 3 image\n"),
             Answer::TooLong => Vec::from_slice(alloc, b"error 12 image 67108864\n"),
             Answer::Refused { number, offset } => refusal_line(alloc, *number, *offset),
-            Answer::Played(trace) => report::report_of(alloc, trace),
+            Answer::Played(trace) => report_text::report_of(alloc, trace),
         }
     }
 }

@@ -6,7 +6,6 @@ mod call;
 mod plain;
 mod play;
 mod ram;
-mod report;
 mod results;
 #[cfg(test)]
 mod tests;

@@ -127,7 +127,8 @@ fn report(alloc: Global, row: &Row) -> Result<String, AllocError> {
 
 /// The file of a program.
 fn image(alloc: Global, words: &[u32]) -> Result<Vec<u8>, AllocError> {
-    let size = (4 * words.len() as u32).to_be_bytes();
+    let count = u32::try_from(words.len()).unwrap_or(0);
+    let size = count.wrapping_mul(4).to_be_bytes();
     let mut bytes = Vec::from_slice(alloc, &HEADERS)?;
     bytes.extend_from_slice(&size)?;
     bytes.extend_from_slice(&size)?;
