@@ -2,7 +2,7 @@ ghost use Rattle.std.specs.Prelude.{◌≡◌, ◌<◌, IfOk, vec_len};
 ghost use Rattle.std.specs.Vec.{vec_capacity};
 ghost use Rattle.lf_model.specs.Step.{IsSound};
 
-use crate::{Arch, Ctl, Did, Ports, cell, exec, fetch_trap};
+use crate::{Arch, Ctl, Did, Ports, Turn, cell, exec, fetch_trap};
 use lf_model::addresses;
 use lf_model::bus::Why;
 use lf_model::image::{Image, Ranges, Segments};
@@ -15,6 +15,9 @@ use std::test::Fail;
 const PC: u32 = 0x4000_0010;
 
 const NPC: u32 = 0x4000_0080;
+
+/// How many bytes RAM has.
+const RAM: u32 = 4096;
 
 /// The operands' registers are 1 and 2, and the result's register is 3.
 const RESULT: usize = 3;
@@ -42,7 +45,7 @@ impl Ports for Bench {
     ghost use Rattle.lf_model.specs.declared.bus.Why.TheVariants as whys;
     ghost use Rattle.lf_model.specs.declared.step.Look.TheVariants.{Miss};
 
-    ghost seen = { λ p. record { site = record { core = 3; image = p.image; ram = 0 }; cells = p.cells; out = p.out.items; ops = [] } };
+    ghost seen = { λ p. record { site = record { core = 3; image = p.image; ram = 4096 }; cells = p.cells; out = p.out.items; ops = [] } };
 
     ghost parts = { λ _. record { bad = λ c. None; look = λ addr len. Miss whys.Absent; full = true; waiting = false } };
 
@@ -73,7 +76,7 @@ impl Ports for Bench {
     }
 
     fn in_ram(&self, addr: u32, len: u8) -> bool {
-        addresses::is_in_ram(0, addr, len)
+        addresses::is_in_ram(RAM, addr, len)
     }
 
     fn out(&mut self, byte: u8) {
@@ -322,7 +325,7 @@ const TRAPS: [(u32, u32, u32, u8); 17] = [
     (0x81b0_0000, 0, 0, 0x24),
     // JMPL, and LD outside RAM
     (0x87c0_4002, 0x4000_0001, 1, 0x07),
-    (0xc600_6000, 0x4000_0000, 0, 0x09),
+    (0xc600_6000, 0x4000_1000, 0, 0x09),
     // TADDccTV by a tag and by a sum, UDIV and SDIVcc
     (0x8710_4002, 4, 1, 0x0a),
     (0x8710_4002, 0x7fff_fffc, 4, 0x0a),
@@ -448,6 +451,24 @@ fn others(rt: HostRuntime) -> Result<(), Fail> {
     assert_eq!(rt; flush.arch.ctl.pc, NPC);
     let nowhere = after(rt.alloc(), 0x8000_4002, start, false)?;
     assert_eq!(rt; nowhere.cells[0], 0);
+    // LD and ST of the first word of RAM: the cache misses, and the store buffer is full.
+    let first = Start {
+        a: 0x4000_0000,
+        ..ZEROS
+    };
+    let load = after(rt.alloc(), 0xc600_6000, first, false)?.did;
+    assert!(rt;
+        matches!(
+            load,
+            Did::Need(Turn::Load {
+                addr: 0x4000_0000,
+                len: 4,
+                ..
+            })
+        )
+    );
+    let store = after(rt.alloc(), 0xc620_6000, first, false)?.did;
+    assert!(rt; matches!(store, Did::Need(Turn::Drain(Why::Full))));
     Ok(())
 }
 
