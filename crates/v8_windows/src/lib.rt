@@ -1,0 +1,164 @@
+//! The register windows of SPARC V8: the cell of each register, and the windows that SAVE and RESTORE enter.
+//!
+//! There are 8 windows. Their registers and the globals have 136 cells, of which each two adjacent windows share 8.
+//! No call takes memory.
+#![tactic(auto)]
+
+ghost use Rattle.std.specs.Prelude.{◌≡◌, ◌+◌, ◌-◌, ◌<◌, ◌↔◌, ℕ, false, Err, IsTrue, IfOk, OnOk, IsOkUnless};
+ghost use Rattle.lf_model.specs.State.{cell};
+ghost use Rattle.v8_windows.specs.Windows.{IsGlobal, IsOut, IsLocal, IsIn};
+ghost use Rattle.v8_windows.specs.Windows.{window_after_save, window_after_restore, IsInvalid, IsValid};
+
+/// The number of windows.
+const WINDOWS: u8 = 8;
+
+/// The trap of an instruction that would enter an invalid window (SPARC V8, chapter 7, traps).
+#[derive(Clone, Copy, Debug, PartialEq, Eq)]
+pub enum WindowTrap {
+    /// `window_overflow`, trap type 05: of SAVE.
+    Overflow,
+
+    /// `window_underflow`, trap type 06: of RESTORE and RETT.
+    Underflow,
+}
+
+/// The cell of register `n` in window `cwp` (SPARC V8, chapter 4, windowed registers). The globals come first,
+/// and then the outs and locals of each window.
+pub fn cell(cwp: u8, n: u8) -> usize
+    requires window { cwp < 8 }
+    requires register { n < 32 }
+    ensures cell { result ≡ cell cwp n }
+    ensures within { result < 136 }
+
+    // Two registers of a window have two cells.
+    ensures distinct { (m : ℕ) → m < 32 → cell cwp m ≡ result → m ≡ n }
+
+    // A global has one cell in all windows, and a local is in no other window.
+    ensures globals { IsGlobal n → (window : ℕ) → cell window n ≡ result }
+    ensures locals { IsLocal n → (window m : ℕ) → window < 8 → m < 32 → cell window m ≡ result → window ≡ cwp }
+
+    // The outs are the ins of the window that SAVE enters, and the ins the outs of the one that RESTORE enters.
+    ensures outs { IsOut n → cell (window_after_save cwp) (n + 16) ≡ result }
+    ensures ins { IsIn n → cell (window_after_restore cwp) (n - 16) ≡ result }
+{
+    let n = usize::from(n);
+    if n < 8 {
+        n
+    } else {
+        8 + (16 * usize::from(cwp) + n - 8) % 128
+    }
+}
+
+fn is_invalid(wim: u32, window: u8) -> bool
+    requires { window < 8 }
+    ensures invalid { IsTrue result ↔ IsInvalid wim window }
+    ensures valid { result ≡ false → IsValid wim window }
+{
+    wim >> window & 1 == 1
+}
+
+/// The window that SAVE enters from window `cwp` (SPARC V8, appendix B, SAVE and RESTORE instructions).
+///
+/// # Errors
+///
+/// `Overflow` where the mask `wim` marks that window as invalid.
+pub fn save(cwp: u8, wim: u32) -> Result<u8, WindowTrap>
+    requires { cwp < 8 }
+    ensures window { IfOk result (λ window. window ≡ window_after_save cwp) }
+    ensures within { IfOk result (λ window. window < 8) }
+    ensures valid { OnOk result (IsValid wim (window_after_save cwp)) }
+    ensures trap { (result ≡ Err WindowTrap.Overflow) ↔ IsInvalid wim (window_after_save cwp) }
+    ensures only { IsOkUnless result WindowTrap.Overflow }
+
+    // RESTORE comes back.
+    ensures back { IfOk result (λ window. window_after_restore window ≡ cwp) }
+{
+    let below = (cwp + WINDOWS - 1) % WINDOWS;
+    if is_invalid(wim, below) {
+        return Err(WindowTrap::Overflow);
+    }
+    Ok(below)
+}
+
+/// The window that RESTORE and RETT enter from window `cwp` (SPARC V8, appendix B, SAVE and RESTORE, and RETT
+/// instructions).
+///
+/// # Errors
+///
+/// `Underflow` where the mask `wim` marks that window as invalid.
+pub fn restore(cwp: u8, wim: u32) -> Result<u8, WindowTrap>
+    requires { cwp < 8 }
+    ensures window { IfOk result (λ window. window ≡ window_after_restore cwp) }
+    ensures within { IfOk result (λ window. window < 8) }
+    ensures valid { OnOk result (IsValid wim (window_after_restore cwp)) }
+    ensures trap { (result ≡ Err WindowTrap.Underflow) ↔ IsInvalid wim (window_after_restore cwp) }
+    ensures only { IsOkUnless result WindowTrap.Underflow }
+
+    // SAVE comes back.
+    ensures back { IfOk result (λ window. window_after_save window ≡ cwp) }
+{
+    let above = (cwp + 1) % WINDOWS;
+    if is_invalid(wim, above) {
+        return Err(WindowTrap::Underflow);
+    }
+    Ok(above)
+}
+
+#[cfg(test)]
+mod tests {
+    use super::WindowTrap::{Overflow, Underflow};
+    use super::*;
+
+    #[test]
+    fn cells_and_windows(rt: HostRuntime) {
+        // %g1, %g7; %o0, %l0 and %i0 of window 0; %o0 of window 1; %o7 and %i7 of adjacent windows;
+        // %l1, %l7, %i0 and %i7 of window 7.
+        let cells = [
+            (0, 1, 1),
+            (7, 1, 1),
+            (3, 7, 7),
+            (0, 8, 8),
+            (0, 16, 16),
+            (0, 24, 24),
+            (1, 8, 24),
+            (7, 15, 127),
+            (6, 31, 127),
+            (7, 17, 129),
+            (7, 23, 135),
+            (7, 24, 8),
+            (7, 31, 15),
+        ];
+        for (cwp, n, expected) in cells {
+            assert!(rt; cwp < 8 && n < 32);
+            assert_eq!(rt; cell(cwp, n), expected, "register {n} of window {cwp}");
+        }
+
+        let saves = [
+            (0, 0x0000_0000, Ok(7)),
+            (0, 0xffff_ff7f, Ok(7)),
+            (0, 0x0000_0080, Err(Overflow)),
+            (1, 0x0000_0002, Ok(0)),
+            (1, 0x0000_0001, Err(Overflow)),
+            (7, 0x0000_00bf, Ok(6)),
+            (7, 0x0000_0040, Err(Overflow)),
+        ];
+        for (cwp, wim, expected) in saves {
+            assert!(rt; cwp < 8);
+            assert_eq!(rt; save(cwp, wim), expected, "save from window {cwp}");
+        }
+
+        let restores = [
+            (7, 0x0000_0000, Ok(0)),
+            (7, 0xffff_fffe, Ok(0)),
+            (7, 0x0000_0001, Err(Underflow)),
+            (0, 0x0000_0001, Ok(1)),
+            (0, 0x0000_0002, Err(Underflow)),
+            (6, 0x0000_007f, Ok(7)),
+            (6, 0x0000_0080, Err(Underflow)),
+        ];
+        for (cwp, wim, expected) in restores {
+            assert!(rt; cwp < 8);
+            assert_eq!(rt; restore(cwp, wim), expected, "restore from window {cwp}");
+        }
+    }
+}
