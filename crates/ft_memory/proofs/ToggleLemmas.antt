@@ -7,7 +7,8 @@ use Rattle.std.proofs.lemmas.Bool.{cases_eq, ne_eqb, eq-eqb}
 use Rattle.std.proofs.lemmas.Nat.Bits.{bit_at-lt}
 use Rattle.lf_num.specs.Toggles.{places}
 use Rattle.lf_num.proofs.ToggleLemmas.{bit_at-turned, bit_at-kept}
-use Rattle.ft_memory.specs.Toggling.{places_below, has_place, with_toggled}
+use Rattle.lf_model.specs.Flips.{places_below}
+use Rattle.ft_memory.specs.Toggling.{has_place, with_toggled}
 
 -- the test for a one at a place
 abbrev pub is_one : ℕ → ℕ → Bool
@@ -15,7 +16,6 @@ is_one n place = nat_eq (bit_at n place) 1
 
 -- two tests that agree below a width keep the same places
 pub filter-same : (width : ℕ) (f g : ℕ → Bool) → ((place : ℕ) → place < width → f place ≡ g place) → filter f (places_below width) ≡ filter g (places_below width)
-unfolding places_below
 filter-same zero f g same = refl
 filter-same (suc width) f g same =
     ap (λ (b : Bool). cond b (width ∷ filter f (places_below width)) (filter f (places_below width))) (same width (omega arith))
@@ -23,7 +23,7 @@ filter-same (suc width) f g same =
 
 -- the places of the ones of a number, by the test
 pub places-filter : (width n : ℕ) → places width n ≡ filter (is_one n) (places_below width)
-unfolding places places_below
+unfolding places
 places-filter zero n = refl
 places-filter (suc width) n = ap (λ (rest : List ℕ). cond (is_one n width) (width ∷ rest) rest) (places-filter width n)
 

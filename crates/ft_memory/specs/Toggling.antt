@@ -1,11 +1,7 @@
 -- Sets of bits, each set as the list of its places with the highest first, so that equal sets are equal lists.
-use Rattle.std.specs.Prelude.{ℕ, zero, suc, Bool, not, ◌==◌, if◌then◌else◌, List, [], ◌∷◌, filter}
+use Rattle.std.specs.Prelude.{ℕ, Bool, not, ◌==◌, if◌then◌else◌, List, filter}
 use Rattle.std.specs.List.{list_any}
-
--- the places below a width
-unfoldable pub places_below : ℕ → List ℕ
-places_below zero = []
-places_below (suc place) = place ∷ places_below place
+use Rattle.lf_model.specs.Flips.{places_below}
 
 -- the place is in the set
 abbrev pub has_place : List ℕ → ℕ → Bool
