@@ -1,0 +1,115 @@
+-- Histories of words, as a turn begins and as its transfer is made.
+use Rattle.std.proofs.Common.{◌≡◌, ℕ, zero, suc, ◌+◌, ◌*◌, ◌%◌, ◌<◌, Bool, true, false, ◌&&◌, cond, nat_eq, nat_lt, List, [], ◌∷◌, ◌++◌, length, IsTrue, refl, sym, ap, ◌∙◌, zero-add, add-zero, arith, Option, Some, None, inl, inr}
+use Rattle.std.specs.Prelude.{filter}
+use Rattle.std.specs.List.{filter_map, range_with_len, zip, cons_option}
+use Rattle.std.proofs.lemmas.Bool.{false≢true, le-ltb, lt-ltb, and_left, and_right, and_from, cases_order}
+use Rattle.lf_model.specs.Flips.{How, Moment}
+use Rattle.lf_model.specs.Flips.How.{Whole}
+use Rattle.lf_model.specs.Flips.Moment.{Struck, Written}
+use Rattle.lf_model.specs.WordHistory.{begun, history, history_from, after_transfer, after_moments, strike_at, strikes_at, touches_word, write_by, with_write}
+use Rattle.lf_model.specs.declared.bus.Transfer.{Transfer}
+use Rattle.lf_model.specs.declared.bus.TurnKind.{TurnKind}
+use Rattle.lf_model.specs.declared.bus.TurnKind.TheVariants.{Fetch, Load, Store, Atomic, Snoop, Look, Fix}
+use Rattle.lf_model.specs.declared.flip.Flip.{Flip}
+use Rattle.lf_model.specs.declared.flip.Flip.TheVariants.{Mem, Reg, Tag, Line}
+use Rattle.ahb_bus.specs.BusState.{BusState, met, is_fill, after_turn}
+use Rattle.ahb_bus.specs.Plan.{strikes_from}
+use Rattle.ahb_bus.specs.Striking.{struck_by, after_run}
+use Rattle.ahb_bus.specs.declared.plan.Strike.{Strike}
+
+-- a history goes on by one more transfer
+history_from-more : (script : List Flip) (word turn : ℕ) (h : List Moment) (ts : List Transfer) (t : Transfer)
+    → history_from script [] word turn h (ts ++ t ∷ []) ≡ after_transfer script [] word (turn + length ts) (history_from script [] word turn h ts) t
+history_from-more script word turn h [] t = ap (λ (n : ℕ). after_transfer script [] word n h t) (sym (add-zero turn))
+history_from-more script word turn h (first ∷ ts) t =
+    let next : turn + 1 + length ts ≡ turn + suc (length ts) = omega arith in
+    history_from-more script word (turn + 1) (after_transfer script [] word turn h first) ts t
+    ∙ ap (λ (n : ℕ). after_transfer script [] word n (history_from script [] word (turn + 1) (after_transfer script [] word turn h first) ts) t) next
+
+history-more : (script : List Flip) (word : ℕ) (ts : List Transfer) (t : Transfer)
+    → history script [] word (ts ++ t ∷ []) ≡ after_transfer script [] word (length ts) (history script [] word ts) t
+history-more script word ts t =
+    history_from-more script word 0 [] ts t
+    ∙ ap (λ (n : ℕ). after_transfer script [] word n (history script [] word ts) t) (zero-add (length ts))
+
+-- the history of a word after the transfer of a turn, from that which the transfer met
+pub met-after : (bus : BusState) (made : Transfer) (word : ℕ) → bus.begun ≡ true
+    → met (after_turn bus made) word ≡ with_write (cond (touches_word made word) (write_by made.kind made.len (met bus word)) None) (met bus word)
+unfolding met
+met-after bus made word is_begun =
+    let h = history bus.flips [] word bus.transfers in
+    history-more bus.flips word bus.transfers made
+    ∙ ap (λ (b : Bool). with_write (cond (touches_word made word) (write_by made.kind made.len (cond b (begun bus.flips word (length bus.transfers) h) h)) None) (cond b (begun bus.flips word (length bus.transfers) h) h)) (sym is_begun)
+
+-- a fill writes nothing
+pub met-filled : (bus : BusState) (made : Transfer) (word : ℕ) → bus.begun ≡ true → is_fill made.kind ≡ true → met (after_turn bus made) word ≡ met bus word
+met-filled bus made word is_begun fills = met-after bus made word is_begun ∙ nothing made.kind (touches_word made word) fills
+  where
+    nothing : (kind : TurnKind) (b : Bool) → is_fill kind ≡ true → with_write (cond b (write_by kind made.len (met bus word)) None) (met bus word) ≡ met bus word
+    nothing Fetch true fills = refl
+    nothing Fetch false fills = refl
+    nothing Load true fills = refl
+    nothing Load false fills = refl
+    nothing Store b fills = absurd (false≢true fills)
+    nothing Atomic b fills = absurd (false≢true fills)
+    nothing Snoop b fills = absurd (false≢true fills)
+    nothing Look b fills = absurd (false≢true fills)
+    nothing Fix b fills = absurd (false≢true fills)
+
+-- a store of a word writes it whole
+pub met-stored : (bus : BusState) (made : Transfer) (word : ℕ) → bus.begun ≡ true → made.kind ≡ Store → made.len ≡ 4 → made.addr ≡ word
+    → met (after_turn bus made) word ≡ Written Whole ∷ met bus word
+met-stored bus made word is_begun kind len addr =
+    let low : nat_lt made.addr (word + 4) ≡ true = lt-ltb made.addr (word + 4) (omega (arith, addr)) in
+    let high : nat_lt word (made.addr + made.len) ≡ true = lt-ltb word (made.addr + made.len) (omega (arith, addr, len)) in
+    met-after bus made word is_begun
+    ∙ ap (λ (b : Bool). with_write (cond b (write_by made.kind made.len (met bus word)) None) (met bus word)) (and_from (nat_lt made.addr (word + 4)) (nat_lt word (made.addr + made.len)) low high)
+    ∙ ap (λ (k : TurnKind). with_write (write_by k made.len (met bus word)) (met bus word)) kind
+    ∙ ap (λ (n : ℕ). with_write (write_by Store n (met bus word)) (met bus word)) len
+
+-- and no other word
+pub met-kept : (bus : BusState) (made : Transfer) (word : ℕ) → bus.begun ≡ true → made.len ≡ 4 → made.addr % 4 ≡ 0 → word % 4 ≡ 0 → (word ≡ made.addr → ⊥)
+    → met (after_turn bus made) word ≡ met bus word
+met-kept bus made word is_begun len addr_aligned word_aligned other =
+    let untouched : touches_word made word ≡ false =
+    elim (cases_order word made.addr) [
+      | inl same ↦ absurd (other same)
+      | inr apart ↦ elim apart [
+        | inl below ↦ and_left (nat_lt made.addr (word + 4)) (nat_lt word (made.addr + made.len)) (le-ltb made.addr (word + 4) (omega arith))
+        | inr above ↦ and_right (nat_lt made.addr (word + 4)) (nat_lt word (made.addr + made.len)) (le-ltb word (made.addr + made.len) (omega (arith, len)))
+      ]
+    ] in
+    met-after bus made word is_begun
+    ∙ ap (λ (b : Bool). with_write (cond b (write_by made.kind made.len (met bus word)) None) (met bus word)) untouched
+
+-- the history of a word as a turn begins
+pub met-begun : (bus : BusState) (word : ℕ) → bus.begun ≡ false → met (record bus { begun = true }) word ≡ begun bus.flips word (length bus.transfers) (met bus word)
+unfolding met
+met-begun bus word not_begun =
+    let h = history bus.flips [] word bus.transfers in
+    ap (λ (b : Bool). begun bus.flips word (length bus.transfers) (cond b (begun bus.flips word (length bus.transfers) h) h)) (sym not_begun)
+
+-- a run of strikes makes the moments of the script's flips of its turn
+one_strike : (b : Bool) (s : Strike) (rest : List Strike) (moments : List Moment) (word : ℕ) (h : ℕ → List Moment)
+    → ((h : ℕ → List Moment) → after_run rest h word ≡ after_moments moments (h word))
+    → after_run (cond b (s ∷ rest) rest) h word ≡ after_moments (cons_option (cond (b && nat_eq s.word word) (Some (Struck s.number s.bit)) None) moments) (h word)
+one_strike false s rest moments word h later = later h
+one_strike true s rest moments word h later = later (struck_by s h) ∙ inner (nat_eq s.word word)
+  where
+    inner : (b : Bool) → after_moments moments (cond b (Struck s.number s.bit ∷ h word) (h word)) ≡ after_moments (cons_option (cond b (Some (Struck s.number s.bit)) None) moments) (h word)
+    inner true = refl
+    inner false = refl
+
+run_moments : (turn number : ℕ) (flips : List Flip) (word : ℕ) (h : ℕ → List Moment)
+    → after_run (filter (λ (s : Strike). nat_eq s.turn turn) (strikes_from number flips)) h word ≡ after_moments (filter_map (strike_at turn word) (zip (range_with_len number (length flips)) flips)) (h word)
+run_moments turn number [] word h = refl
+run_moments turn number (Mem at addr bit ∷ flips) word h =
+    one_strike (nat_eq at turn) (record { turn = at; word = addr; bit = bit; number = number }) (filter (λ (s : Strike). nat_eq s.turn turn) (strikes_from (number + 1) flips))
+    (filter_map (strike_at turn word) (zip (range_with_len (number + 1) (length flips)) flips)) word h (λ (h' : ℕ → List Moment). run_moments turn (number + 1) flips word h')
+run_moments turn number (Reg core step cell bit ∷ flips) word h = run_moments turn (number + 1) flips word h
+run_moments turn number (Tag core step fetch way set byte bit ∷ flips) word h = run_moments turn (number + 1) flips word h
+run_moments turn number (Line core step fetch way set byte bit ∷ flips) word h = run_moments turn (number + 1) flips word h
+
+pub run_begun : (turn : ℕ) (flips : List Flip) (word : ℕ) (h : ℕ → List Moment)
+    → after_run (filter (λ (s : Strike). nat_eq s.turn turn) (strikes_from 0 flips)) h word ≡ begun flips word turn (h word)
+run_begun turn flips word h = run_moments turn 0 flips word h

@@ -1,0 +1,20 @@
+use Rattle.std.proofs.Common.{◌≡◌, ◌<◌, ℕ, ◌≤◌, length, arith}
+use Rattle.std.specs.Prelude.{slice_index_or}
+use Rattle.ahb_bus.specs.declared.plan.Strike.{Strike}
+use Rattle.ahb_bus.proofs.PlanLemmas.{run_between, behind_end, cursor_end}
+use Rattle.ahb_bus.proofs.plan.run_end.Goals as goal
+
+pub returns-else-plan-end-clause-run : goal.returns-else-plan-end-clause-run
+returns-else-plan-end-clause-run c =
+    run_between c.args.plan.now c.args.next c.loop-end.end c.args.turn c.loop-end.invariant.from c.loop-end.invariant.within c.requires.cursor.before c.loop-end.invariant.all
+    (behind_end c.args.plan.now c.args.next c.loop-end.end c.args.turn (record { turn = 0; word = 0; bit = 0; number = 0 }) c.loop-end.invariant.from c.loop-end-test.true c.requires.sorted c.requires.cursor c.if-plan-end.false)
+
+pub returns-else-plan-end-clause-cursor : goal.returns-else-plan-end-clause-cursor
+returns-else-plan-end-clause-cursor c =
+    cursor_end c.args.plan.now c.args.next c.loop-end.end c.args.turn c.requires.cursor c.loop-end.invariant.all
+    (behind_end c.args.plan.now c.args.next c.loop-end.end c.args.turn (record { turn = 0; word = 0; bit = 0; number = 0 }) c.loop-end.invariant.from c.loop-end-test.true c.requires.sorted c.requires.cursor c.if-plan-end.false)
+
+pub returns-after-loop-end-clause-run : goal.returns-after-loop-end-clause-run
+returns-after-loop-end-clause-run c =
+    run_between c.args.plan.now c.args.next c.loop-end.end c.args.turn c.loop-end.invariant.from c.loop-end.invariant.within c.requires.cursor.before c.loop-end.invariant.all
+    (λ k none le within. absurd (omega (arith, le, within, c.loop-end-test.false)))

@@ -1,0 +1,6 @@
+pub mod BusState
+pub mod Plan
+pub mod Cells
+pub mod Striking
+pub mod Telling
+pub mod Inside

@@ -1,0 +1,81 @@
+ghost use Rattle.std.specs.Prelude.{◌≡◌, ◌<◌, length, false, IfSome};
+ghost use Rattle.lf_model.specs.FlipFates.{is_late, is_declined};
+ghost use Rattle.ahb_bus.specs.Telling.{TellSame};
+
+use crate::plan::Strike;
+use lf_model::trace::Fate;
+use std::alloc::{AllocError, Global};
+
+/// The flips that stand in a word, by their numbers: none, one or two.
+#[derive(Clone, Copy, Debug)]
+pub struct Held {
+    word: u32,
+    older: Option<usize>,
+    newer: Option<usize>,
+}
+
+/// An empty record for each word that a plan strikes, by address.
+pub fn held_of(alloc: Global, plan: &[Strike]) -> Result<Vec<Held>, AllocError> {
+    let mut held = Vec::with_capacity(alloc, plan.len())?;
+    for strike in plan {
+        held.push(Held {
+            word: strike.word,
+            older: None,
+            newer: None,
+        })?;
+    }
+    held.sort_by_key(|held| held.word)?;
+    held.dedup_by_key(|held| held.word);
+    Ok(held)
+}
+
+/// The place of a word's record.
+fn place_of(held: &[Held], word: u32) -> Option<usize>
+    ensures { IfSome result (λ place. place < length held.now) }
+{
+    held.binary_search_by_key(&word, |held| held.word).ok()
+}
+
+/// Notes that a flip stands in a word from now on.
+pub fn hold(held: &mut Vec<Held>, word: u32, number: usize) {
+    if let Some(place) = place_of(held, word) {
+        let mut here = held[place];
+        if here.older.is_none() {
+            here.older = Some(number);
+        } else {
+            here.newer = Some(number);
+        }
+        held[place] = here;
+    }
+}
+
+/// Gives a flip that is dormant another fate.
+fn settle(fates: &mut Vec<Fate>, number: Option<usize>, fate: Fate)
+    requires not_late { is_late fate ≡ false }
+    requires not_declined { is_declined fate ≡ false }
+    ensures { TellSame fates.old.items fates.new.items }
+{
+    if let Some(number) = number {
+        if number < fates.len() && fates[number] == Fate::Dormant {
+            fates[number] = fate;
+        }
+    }
+}
+
+/// Gives the dormant flips that stand in a word another fate. None stands in it from now on.
+pub fn release(held: &mut Vec<Held>, fates: &mut Vec<Fate>, word: u32, fate: Fate)
+    requires not_late { is_late fate ≡ false }
+    requires not_declined { is_declined fate ≡ false }
+    ensures { TellSame fates.old.items fates.new.items }
+{
+    if let Some(place) = place_of(held, word) {
+        let here = held[place];
+        settle(fates, here.older, fate);
+        settle(fates, here.newer, fate);
+        held[place] = Held {
+            word,
+            older: None,
+            newer: None,
+        };
+    }
+}
