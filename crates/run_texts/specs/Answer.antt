@@ -16,9 +16,9 @@ abbrev pub IsCause : Config → List ℕ → TextErr → Type 0
 IsCause config text (At line why) = IsFirstFault config text line why
 IsCause config text Memory = Unit {0}
 
--- the result is this answer, unless memory ran out
-abbrev pub IsUnlessMemory : Result (List Flip) TextErr → Result (List Flip) TextErr → Type 0
-IsUnlessMemory answer result = (result ≡ answer) ⊎ (result ≡ Err Memory)
+-- the result is this answer, unless memory ran out, which this error tells
+abbrev pub IsUnlessMemory : {A E : Type 0} → E → Result A E → Result A E → Type 0
+IsUnlessMemory memory answer result = (result ≡ answer) ⊎ (result ≡ Err memory)
 
 -- the answer of the fields behind the first one: the flip that they spell, or else their first fault
 abbrev pub IsFlipOrFault : Config → FlipKind → List (List ℕ) → Result Flip TextWhy → Type 0

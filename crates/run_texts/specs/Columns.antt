@@ -37,7 +37,7 @@ field_faults columns fields =
     ∷ []
 
 -- the first of these faults that the line has
-abbrev pub first_fault : List (Bool × TextWhy) → Option TextWhy
+abbrev pub first_fault : {X : Type 0} → List (Bool × X) → Option X
 first_fault faults = option_map (λ fault. fault.1) (find (λ fault. fault.0) faults)
 
 -- the values of fields in their columns

@@ -1,5 +1,10 @@
 pub mod Text
 pub mod Columns
 pub mod FlipLine
+pub mod Faults
 pub mod Script
 pub mod Answer
+pub mod Schedule
+pub mod Keys
+pub mod Document
+pub mod Configuration

@@ -1,10 +1,11 @@
 -- A script of bit flips: which texts are one, which flips they spell, and which line of another text is told.
-use Rattle.std.specs.Prelude.{ℕ, ◌≡◌, ◌+◌, ◌<◌, List, [], length, take, Option, Some, None, slice_index_or}
+use Rattle.std.specs.Prelude.{ℕ, ◌≡◌, ◌<◌, List, [], length, take, Option, None, slice_index_or}
 use Rattle.std.specs.List.{filter_map}
 use Rattle.lf_model.specs.declared.config.Config.{Config}
 use Rattle.lf_model.specs.declared.flip.Flip.{Flip}
 use Rattle.run_texts.specs.declared.error.TextWhy.{TextWhy}
 use Rattle.run_texts.specs.Text.{rows}
+use Rattle.run_texts.specs.Faults.{IsFirst}
 use Rattle.run_texts.specs.FlipLine.{fault_of, flip_of}
 
 -- the flips that lines spell, in order
@@ -22,8 +23,5 @@ pub record IsScript (config : Config) (text : List ℕ) (flips : List Flip) : Ty
   pub spelled : flips ≡ flips_of config (rows text)
 
 -- the line of this number, counted from 1, is the first faulty one, and this is its fault
-pub record IsFirstFault (config : Config) (text : List ℕ) (line : ℕ) (why : TextWhy) : Type 0 where
-  pub place : ℕ
-  pub number : line ≡ place + 1
-  pub fault : fault_at config text place ≡ Some why
-  pub first : (earlier : ℕ) → earlier < place → fault_at config text earlier ≡ None
+abbrev pub IsFirstFault : Config → List ℕ → ℕ → TextWhy → Type 0
+IsFirstFault config text line why = IsFirst (fault_at config text) line why

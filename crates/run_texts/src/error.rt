@@ -1,3 +1,6 @@
+ghost use Rattle.std.specs.Prelude.{◌≡◌};
+ghost use Rattle.run_texts.specs.Faults.{word_of};
+
 use std::alloc::AllocError;
 
 /// What is wrong with a line of a text, the fault that is told first at the head.
@@ -13,6 +16,21 @@ pub enum TextWhy {
     Number,
     /// The value of a field is out of its range.
     Range,
+}
+
+impl TextWhy {
+    /// The word that tells the fault.
+    pub fn word(self) -> &'static str
+        ensures { result.now ≡ word_of self }
+    {
+        match self {
+            TextWhy::Word => "word",
+            TextWhy::Many => "many",
+            TextWhy::Count => "count",
+            TextWhy::Number => "number",
+            TextWhy::Range => "range",
+        }
+    }
 }
 
 /// Why a text was not read.

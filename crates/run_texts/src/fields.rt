@@ -1,7 +1,7 @@
 ghost use Rattle.std.specs.Prelude.{◌≡◌, ◌≤◌, length};
 ghost use Rattle.std.specs.List.{prefix_len, position_or_len};
 ghost use Rattle.std.specs.Iterator.{YieldsFirstRef, item_count};
-ghost use Rattle.run_texts.specs.Text.{is_blank, fields};
+ghost use Rattle.run_texts.specs.Text.{is_blank, fields, is_comment, is_statement};
 
 use std::marker::Model;
 
@@ -66,5 +66,22 @@ impl<'a> Iterator for Fields<'a> {
         let (field, rest) = begun.split_at(field_length(begun));
         self.rest = rest;
         Some(field)
+    }
+}
+
+/// Whether a line that begins with this field is a comment.
+pub fn is_comment(first: &[u8]) -> bool
+    ensures { result ≡ is_comment first.now }
+{
+    first.starts_with(b"#")
+}
+
+/// Whether a line is neither empty nor a comment.
+pub fn is_statement(line: &[u8]) -> bool
+    ensures { result ≡ is_statement (fields line.now) }
+{
+    match Fields::new(line).next() {
+        Some(first) => !is_comment(first),
+        None => false,
     }
 }

@@ -1,12 +1,12 @@
 ghost use Rattle.std.specs.Prelude.{◌≡◌};
 ghost use Rattle.run_texts.specs.declared.flip_line.FlipKind.TheVariants.{MemoryWord};
-ghost use Rattle.run_texts.specs.Text.{fields, is_comment};
+ghost use Rattle.run_texts.specs.Text.{fields};
 ghost use Rattle.run_texts.specs.Columns.{word_of_ram};
 ghost use Rattle.run_texts.specs.FlipLine.{kind_of};
 ghost use Rattle.run_texts.specs.Answer.{IsFlipOrFault, IsLineAnswer};
 
 use crate::error::TextWhy;
-use crate::fields::Fields;
+use crate::fields::{Fields, is_comment};
 use crate::numbers::{decimal, hexadecimal};
 use lf_model::addresses::is_in_ram;
 use lf_model::config::Config;
@@ -76,13 +76,6 @@ fn memory_flip(mut fields: Fields, config: &Config) -> Result<Flip, TextWhy>
         addr,
         bit: bit as u8,
     })
-}
-
-/// Whether a line that begins with this field is a comment.
-fn is_comment(first: &[u8]) -> bool
-    ensures { result ≡ is_comment first.now }
-{
-    first.starts_with(b"#")
 }
 
 /// The flip that a line spells behind `earlier` flips, `None` where the line is empty or a comment, or else its first

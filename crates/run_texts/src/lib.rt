@@ -11,14 +11,23 @@
 //! scripts and which line of another text is told.
 #![tactic(auto)]
 
+mod config;
+mod config_error;
+mod document;
 mod error;
 mod fields;
 mod flip_line;
+mod keys;
 mod lines;
 mod numbers;
+mod schedule;
 mod script;
 #[cfg(test)]
 mod tests;
 
+pub use config::read_config;
+pub use config_error::ConfigErr;
 pub use error::{TextErr, TextWhy};
+pub use keys::Key;
+pub use schedule::read_schedule;
 pub use script::read_script;

@@ -25,9 +25,9 @@ pub fn read_script(alloc: Global, text: &[u8], config: &Config) -> Result<Flips,
     ensures refused { IfErr result (IsCause config.now text.now) }
 
     // And the other way round.
-    ensures script { (flips : List Flip) → IsScript config.now text.now flips → IsUnlessMemory (Ok flips) result }
+    ensures script { (flips : List Flip) → IsScript config.now text.now flips → IsUnlessMemory TextErr.Memory (Ok flips) result }
     ensures fault { (line : ℕ) (why : TextWhy) → IsFirstFault config.now text.now line why
-        → IsUnlessMemory (Err (TextErr.At line why)) result }
+        → IsUnlessMemory TextErr.Memory (Err (TextErr.At line why)) result }
 
     // Each line that is neither empty nor a comment spells one flip, of a bit that the machine has.
     ensures each { IfOk result (λ flips. length flips ≡ count_by is_statement (rows text.now)) }

@@ -1,0 +1,6 @@
+-- What a table finds at a name is what its members have there.
+use Rattle.toml.proofs.Views.{table_get}
+use Rattle.run_texts.proofs.document.get.Goals as goal
+
+pub returns : goal.returns
+returns c = table_get c.get.result c.args.name.now c.args.table.now.entries c.get.ensures.value
