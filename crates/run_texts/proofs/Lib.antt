@@ -1,5 +1,9 @@
 pub mod LineLemmas
 pub mod FieldLemmas
 pub mod Numerals
+pub mod RowLemmas
 pub mod ScriptLemmas
+pub mod ScheduleLemmas
 pub mod DocumentLemmas
+pub mod FaultLemmas
+pub mod TableLemmas

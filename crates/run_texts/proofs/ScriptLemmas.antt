@@ -16,6 +16,7 @@ use Rattle.run_texts.specs.FlipLine.{most_flips, fault_of, flip_of, IsOfMachine}
 use Rattle.run_texts.specs.Script.{flips_of, fault_at, IsScript, IsFirstFault}
 use Rattle.run_texts.specs.Answer.{IsLineAnswer}
 use Rattle.run_texts.proofs.LineLemmas.{length-lines}
+use Rattle.run_texts.proofs.RowLemmas.{at_drop}
 
 -- So many lines of a text are read, as these flips, and these lines are left. None of those read is faulty.
 pub record IsReadTo (config : Config) (text : List ℕ) (number : ℕ) (flips : List Flip) (left : List (List ℕ)) : Type 0 where
@@ -38,21 +39,6 @@ start config text = record {
   of_machine = λ k d none. absurd (omega arith);
   short = omega (arith, length-lines text);
 }
-
--- x is the element at place n, and these elements are left behind it; d serves as the default past the end
-record IsNext {X : Type 0} (xs : List X) (n : ℕ) (x : X) (left : List X) (d : X) : Type 0 where
-  pub within : n < length xs
-  pub here : get_or xs n d ≡ x
-  pub behind : left ≡ drop (n + 1) xs
-
-at_drop : {X : Type 0} (xs : List X) (n : ℕ) (x : X) (left : List X) (d : X) → x ∷ left ≡ drop n xs → IsNext xs n x left d
-at_drop xs n x left d behind =
-    elim (cases_lt n (length xs)) [
-      | inl within ↦
-          let parts : x ∷ left ≡ get_or xs n d ∷ drop (n + 1) xs = behind ∙ rw add-one (drop-cons xs n d within) in
-          record { within = within; here = cc; behind = cc }
-      | inr past ↦ let none : x ∷ left ≡ [] = behind ∙ drop_all n xs past in absurd cc
-    ]
 
 -- the fault of the line that is read next
 fault_next : (config : Config) (text line : List ℕ) (number : ℕ) (flips : List Flip) (left : List (List ℕ))
@@ -165,22 +151,3 @@ none_in_script config text flips line why s f =
     let none : fault_at config text f.place ≡ None = script_faultless config text flips s f.place in
     let some : fault_at config text f.place ≡ Some why = f.fault in
     cc
-
--- a text has one first fault
-pub one_fault : (config : Config) (text : List ℕ) (line other : ℕ) (why cause : TextWhy)
-    → IsFirstFault config text line why → IsFirstFault config text other cause → (line ≡ other) × (why ≡ cause)
-one_fault config text line other why cause f g =
-    let same : f.place ≡ g.place = same_place config text line other why cause f g in
-    let fault : Some why ≡ Some cause = sym f.fault ∙ ap (fault_at config text) same ∙ g.fault in
-    (omega (arith, f.number, g.number), same_Some why cause fault)
-  where
-    same_place : (config : Config) (text : List ℕ) (line other : ℕ) (why cause : TextWhy)
-        → (f : IsFirstFault config text line why) → (g : IsFirstFault config text other cause) → f.place ≡ g.place
-    same_place config text line other why cause f g =
-        elim (cases_lt f.place g.place) [
-          | inl before ↦ let none = g.first f.place before in let some = f.fault in absurd cc
-          | inr after ↦ elim (cases_eq g.place f.place) [
-            | inl equal ↦ sym equal
-            | inr other ↦ let none = f.first g.place (omega arith) in let some = g.fault in absurd cc
-          ]
-        ]

@@ -24,6 +24,7 @@ mod schedule;
 mod script;
 #[cfg(test)]
 mod tests;
+mod values;
 
 pub use config::read_config;
 pub use config_error::ConfigErr;

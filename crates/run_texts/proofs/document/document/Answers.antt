@@ -6,5 +6,6 @@ use Rattle.run_texts.proofs.document.document.Goals as goal
 pub returns-in-Ok-clause-read : goal.returns-in-Ok-clause-read
 returns-in-Ok-clause-read c = document_read _ _ c.in-Ok.ensures.ok.0 c.in-Ok.ensures.ok.1
 
-pub returns-in-Err-2-clause-refused : goal.returns-in-Err-2-clause-refused
-returns-in-Err-2-clause-refused c = inr (refl, document_refused _ (c.in-Err-2.ensures.refused c.if-is_memory.ensures))
+pub returns-else-is_memory-clause-refused : goal.returns-else-is_memory-clause-refused
+returns-else-is_memory-clause-refused c =
+    inr (refl, document_refused _ (c.in-Err.ensures.refused (λ memory. let never = c.if-is_memory.ensures.1 memory in absurd cc)))

@@ -1,7 +1,9 @@
 -- The first line, each line, and the answers.
 use Rattle.std.proofs.Common.{◌≡◌, ◌+◌, ◌∙◌, inl, refl}
 use Rattle.std.specs.Str.Lines.{lines}
-use Rattle.run_texts.proofs.ScriptLemmas.{start, passed, more, faulty, script, none_in_script, one_fault}
+use Rattle.run_texts.proofs.ScriptLemmas.{start, passed, more, faulty, script, none_in_script}
+use Rattle.run_texts.proofs.RowLemmas.{one_fault}
+use Rattle.run_texts.specs.Script.{fault_at}
 use Rattle.run_texts.proofs.script.read_script.Goals as goal
 
 pub loop-line-init : goal.loop-line-init
@@ -37,7 +39,7 @@ returns-in-Err-clause-script c flips script =
 
 pub returns-in-Err-clause-fault : goal.returns-in-Err-clause-fault
 returns-in-Err-clause-fault c line why fault =
-    let same = one_fault c.args.config.now c.args.text.now (c.loop-line.number + 1) line c.in-Err.why why (returns-in-Err-clause-refused c) fault in
+    let same = one_fault (fault_at c.args.config.now c.args.text.now) (c.loop-line.number + 1) line c.in-Err.why why (returns-in-Err-clause-refused c) fault in
     inl (rw (same.0, same.1) refl)
 
 pub returns-clause-fault : goal.returns-clause-fault

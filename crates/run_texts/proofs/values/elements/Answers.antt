@@ -2,7 +2,7 @@
 use Rattle.std.proofs.Common.{sym, ap, ◌∙◌, map}
 use Rattle.toml.specs.View.{view}
 use Rattle.run_texts.proofs.DocumentLemmas.{values_of-view, elements-array}
-use Rattle.run_texts.proofs.document.elements.Goals as goal
+use Rattle.run_texts.proofs.values.elements.Goals as goal
 
 pub returns-in-Some : goal.returns-in-Some
 returns-in-Some c =

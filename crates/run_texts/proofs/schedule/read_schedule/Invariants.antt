@@ -1,0 +1,8 @@
+use Rattle.run_texts.proofs.ScheduleLemmas.{IsPassedTo}
+use Rattle.run_texts.proofs.schedule.read_schedule.Given as goal
+
+abbrev pub invariant-loop-line : goal.invariant-loop-line
+invariant-loop-line l =
+    (goal.iterator-loop-line).can_next l.line-iterator
+    × (goal.iterator-loop-line).is_finite l.line-iterator
+    × IsPassedTo l.config l.text l.number l.line-iterator
