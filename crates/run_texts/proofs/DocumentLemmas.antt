@@ -1,5 +1,5 @@
 -- What the values of `toml` show of a document.
-use Rattle.std.proofs.Common.{ℕ, ◌≡◌, ◌≤◌, Bool, ◌&&◌, nat_le, le-leb, length, List, [], ◌∷◌, map, Option, Some, None, is_some, true, false, refl, ap, sym, ◌∙◌, string_bytes, String, Global, cond, inl, inr}
+use Rattle.std.proofs.Common.{ℕ, ◌≡◌, ◌≤◌, Bool, ◌&&◌, le-leb, length, List, [], ◌∷◌, map, Option, Some, None, is_some, true, refl, ap, sym, ◌∙◌, string_bytes, String, Global, inl, inr}
 use Rattle.std.specs.Prelude.{IsUtf8}
 use Rattle.std.specs.Str.{is_utf8}
 use Rattle.std.proofs.lemmas.List.{length-map}
@@ -14,9 +14,8 @@ use Rattle.toml.specs.Parse.{parse_document}
 use Rattle.toml.specs.View.{view, items_view, members_view, array_view, table_view}
 use Rattle.toml.specs.declared.value.Value.{Value}
 use Rattle.run_texts.specs.declared.keys.Key.{Key}
-use Rattle.run_texts.specs.declared.keys.Kind.{Kind}
 use Rattle.run_texts.specs.declared.keys.Kind.TheVariants.{Integers}
-use Rattle.run_texts.specs.Document.{document_of, values_of, elements, entries_of, entries, is_section, is_key, is_known, has_known_keys, number, value_at, numbers_at}
+use Rattle.run_texts.specs.Document.{document_of, values_of, elements, entries_of, entries, is_section, is_key, is_known, number, value_at, numbers_at}
 use Rattle.run_texts.specs.Configuration.{is_integer, is_of_kind, is_number, is_within}
 
 -- UTF-8 that is TOML spells a document

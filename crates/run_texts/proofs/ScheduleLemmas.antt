@@ -1,15 +1,13 @@
 -- A schedule that is read line by line.
-use Rattle.std.proofs.Common.{ℕ, ◌≡◌, ◌+◌, ◌<◌, ◌≤◌, true, false, List, [], ◌∷◌, length, drop, map, get_or, Option, Some, None, refl, sym, ap, ◌∙◌, inl, inr, arith, below_more, length-drop}
+use Rattle.std.proofs.Common.{ℕ, ◌≡◌, ◌+◌, ◌<◌, ◌≤◌, true, false, List, [], ◌∷◌, length, drop, map, None, refl, ap, ◌∙◌, inl, inr, arith, below_more, length-drop}
 use Rattle.std.specs.Str.Lines.{lines}
-use Rattle.std.proofs.lemmas.Bool.{cases_lt, cases_eq}
-use Rattle.std.proofs.lemmas.Option.{same_Some}
+use Rattle.std.proofs.lemmas.Bool.{cases_lt}
 use Rattle.std.proofs.lemmas.List.{get_or_past}
 use Rattle.lf_model.specs.declared.config.Config.{Config}
 use Rattle.lf_model.specs.declared.setup.Event.{Event}
 use Rattle.run_texts.specs.declared.error.TextWhy.{TextWhy}
 use Rattle.run_texts.specs.declared.error.TextWhy.TheVariants.{Word}
 use Rattle.run_texts.specs.Text.{fields, rows, is_statement}
-use Rattle.run_texts.specs.Faults.{IsFirst}
 use Rattle.run_texts.specs.Schedule.{schedule_fault, schedule_fault_at, IsSchedule, IsFirstScheduleFault}
 use Rattle.run_texts.proofs.LineLemmas.{length-lines}
 use Rattle.run_texts.proofs.RowLemmas.{at_drop}

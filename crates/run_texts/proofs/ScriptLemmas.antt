@@ -1,13 +1,11 @@
 -- A text that is read line by line.
-use Rattle.std.proofs.Common.{ℕ, ◌≡◌, ◌+◌, ◌<◌, ◌≤◌, List, [], ◌∷◌, ◌++◌, length, take, drop, map, get_or, Option, Some, None, All, count_by, Ok, Err, refl, sym, ap, ap₂, ◌∙◌, inl, inr, arith, add-one, length-append, below_more}
-use Rattle.std.proofs.lemmas.Option.{same_Some}
+use Rattle.std.proofs.Common.{ℕ, ◌≡◌, ◌+◌, ◌<◌, ◌≤◌, List, [], ◌∷◌, ◌++◌, length, take, drop, map, get_or, Option, Some, None, All, count_by, Ok, Err, refl, sym, ap, ap₂, ◌∙◌, inl, inr, arith, length-append, below_more}
 use Rattle.std.specs.List.{filter_map, cons_option}
 use Rattle.std.specs.Str.Lines.{lines}
-use Rattle.std.proofs.Math.Seq.{drop-cons}
-use Rattle.std.proofs.lemmas.Bool.{cases_lt, cases_eq}
+use Rattle.std.proofs.lemmas.Bool.{cases_lt}
 use Rattle.std.proofs.lemmas.List.Elements.{filter_map-append, All-push}
 use Rattle.std.proofs.lemmas.List.Sums.{count_by_more_yes, count_by_more_no}
-use Rattle.std.proofs.lemmas.List.{take_more, drop_all, take_all, append-nil, length-drop, get_or_past}
+use Rattle.std.proofs.lemmas.List.{take_more, take_all, append-nil, length-drop, get_or_past}
 use Rattle.lf_model.specs.declared.config.Config.{Config}
 use Rattle.lf_model.specs.declared.flip.Flip.{Flip}
 use Rattle.run_texts.specs.declared.error.TextWhy.{TextWhy}

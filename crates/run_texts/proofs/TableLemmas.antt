@@ -1,21 +1,19 @@
 -- A configuration without a fault is one that the table of keys takes.
-use Rattle.std.proofs.Common.{ℕ, ◌≡◌, ◌+◌, ◌*◌, ◌%◌, ◌<◌, ◌≤◌, Bool, true, false, not, ◌&&◌, ◌==◌, nat_le, nat_lt, cond, List, [], ◌∷◌, length, get_or, Option, Some, None, unwrap_or, option_and_then, refl, sym, ap, ◌∙◌, inl, inr, arith, lit<}
-use Rattle.std.specs.List.{list_any, list_all, filter_map, flat_map}
+use Rattle.std.proofs.Common.{ℕ, ◌≡◌, ◌+◌, ◌*◌, ◌%◌, ◌<◌, ◌≤◌, Bool, true, false, not, ◌&&◌, ◌==◌, nat_le, nat_lt, List, [], ◌∷◌, length, get_or, Option, Some, None, unwrap_or, option_and_then, refl, sym, ap, arith, lit<}
+use Rattle.std.specs.List.{filter_map, flat_map}
 use Rattle.std.specs.Option.{option_map_or}
-use Rattle.std.proofs.lemmas.Bool.{cases_Bool, and_parts, and_from, leb-true, le-leb, eqb-true, ltb-true}
-use Rattle.std.proofs.lemmas.Bool.Decides.{nat_tests}
+use Rattle.std.proofs.lemmas.Bool.{and_parts, leb-true, le-leb, eqb-true, ltb-true}
 use Rattle.toml.specs.Data.{Data, Members}
 use Rattle.lf_model.specs.declared.config.Config.{Config}
 use Rattle.lf_model.specs.Start.{ram_first, is_in_ram}
-use Rattle.run_texts.specs.declared.config_error.ConfigErr.{ConfigErr}
 use Rattle.run_texts.specs.declared.keys.Key.{Key}
 use Rattle.run_texts.specs.declared.keys.Key.TheVariants.{Cores, Ram, Steps, Window, Buffer, Watch, FetchWays, FetchSets, LoadWays, LoadSets, ScrubFirst, ScrubLength, ScrubTurns}
 use Rattle.run_texts.specs.declared.keys.Kind.{Kind}
 use Rattle.run_texts.specs.declared.keys.Kind.TheVariants.{Integer, Integers}
 use Rattle.run_texts.specs.Columns.{first_fault}
-use Rattle.run_texts.specs.Keys.{row, keys, default_of, is_between, is_number_of_sets}
+use Rattle.run_texts.specs.Keys.{row, keys, default_of, is_between, IsOfTable}
 use Rattle.run_texts.specs.Document.{has_known_keys, value_at, number, number_at, numbers_at, elements, config_of}
-use Rattle.run_texts.specs.Configuration.{is_number, is_within, key_faults, document_faults, fault_of, IsOfTable, IsShape}
+use Rattle.run_texts.specs.Configuration.{is_within, key_faults, fault_of}
 use Rattle.run_texts.proofs.FaultLemmas.{no_fault_of_parts, no_fault_at}
 
 -- a test that fails is false

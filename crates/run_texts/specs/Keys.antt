@@ -1,7 +1,8 @@
 -- The table of the keys of a configuration. It is a TOML document, and each key is optional.
-use Rattle.std.specs.Prelude.{ℕ, ◌*◌, ◌%◌, Bool, ◌==◌, ◌&&◌, nat_lt, nat_le, List, [], ◌∷◌, codes}
+use Rattle.std.specs.Prelude.{ℕ, ◌≡◌, ◌<◌, ◌≤◌, ◌*◌, ◌%◌, Bool, true, ◌==◌, ◌&&◌, nat_lt, nat_le, List, [], ◌∷◌, codes}
 use Rattle.std.specs.List.{list_any, before_first, after_first}
 use Rattle.lf_model.specs.declared.config.Config.{Config}
+use Rattle.lf_model.specs.declared.config.Shape.{Shape}
 use Rattle.lf_model.specs.Start.{ram_first, is_in_ram}
 use Rattle.run_texts.specs.declared.keys.Key.{Key}
 use Rattle.run_texts.specs.declared.keys.Key.TheVariants.{Cores, Ram, Steps, Window, Buffer, Watch, FetchWays, FetchSets, LoadWays, LoadSets, ScrubFirst, ScrubLength, ScrubTurns}
@@ -39,7 +40,9 @@ row FetchSets = at_path (codes "icache.sets") (Integer 64) (λ config n. is_numb
 row LoadWays = at_path (codes "dcache.ways") (Integer 1) (λ config n. is_between 1 4 n)
 row LoadSets = at_path (codes "dcache.sets") (Integer 64) (λ config n. is_number_of_sets n)
 row ScrubFirst = at_path (codes "scrub.first") (Integer ram_first) (λ config a. a % 32 == 0 && is_in_ram config.ram a 32)
-row ScrubLength = at_path (codes "scrub.length") (Integer 32) (λ config n. n % 32 == 0 && nat_lt 0 n && is_in_ram config.ram config.scrub.first n)
+row ScrubLength =
+    at_path (codes "scrub.length") (Integer 32)
+    (λ config n. n % 32 == 0 && nat_lt 0 n && is_in_ram config.ram config.scrub.first n)
 row ScrubTurns = at_path (codes "scrub.turns") (Integer 0) (λ config n. is_between 0 0 n)
 
 -- the keys, in the order in which their faults are told
@@ -59,3 +62,25 @@ name_of key = after_first (λ byte. byte == 46) (row key).path
 abbrev pub default_of : Kind → ℕ
 default_of (Integer default) = default
 default_of (Integers most) = 0
+
+-- the shape of a cache is one that the table of keys takes
+pub record IsShape (shape : Shape) : Type 0 where
+  pub ways : (0 < shape.ways) × (shape.ways ≤ 4)
+  pub sets : is_number_of_sets shape.sets ≡ true
+
+-- what the table of keys asks of a configuration
+pub record IsOfTable (config : Config) : Type 0 where
+  pub cores : config.cores ≡ 1
+  pub ram : config.ram % 65536 ≡ 0
+  pub least_ram : 65536 ≤ config.ram
+  pub most_ram : config.ram ≤ 16777216
+  pub steps : 0 < config.steps
+  pub all_steps : config.cores * config.steps ≤ 4000000
+  pub window : (0 < config.window) × (config.window ≤ 1024)
+  pub buffer : (0 < config.buffer) × (config.buffer ≤ 8)
+  pub watch : config.watch ≡ []
+  pub fetch_cache : IsShape config.fetch_cache
+  pub load_cache : IsShape config.load_cache
+  pub scrub_lines : (config.scrub.first % 32 ≡ 0) × (config.scrub.length % 32 ≡ 0) × (0 < config.scrub.length)
+  pub scrub_in_ram : is_in_ram config.ram config.scrub.first config.scrub.length ≡ true
+  pub scrub_turns : config.scrub_turns ≡ 0

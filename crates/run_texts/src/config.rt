@@ -4,7 +4,8 @@ ghost use Rattle.toml.specs.View.{table_view};
 ghost use Rattle.run_texts.specs.declared.config_error.ConfigErr.TheVariants.{Memory};
 ghost use Rattle.run_texts.specs.Columns.{first_fault};
 ghost use Rattle.run_texts.specs.Document.{number_at, numbers_at, config_of};
-ghost use Rattle.run_texts.specs.Configuration.{key_faults, fault_of, answer, IsOfTable};
+ghost use Rattle.run_texts.specs.Keys.{IsOfTable};
+ghost use Rattle.run_texts.specs.Configuration.{key_faults, fault_of, config_answer};
 ghost use Rattle.run_texts.specs.Answer.{IsUnlessMemory};
 
 use crate::config_error::ConfigErr;
@@ -112,10 +113,10 @@ fn fault_of(document: &Table, config: &Config) -> Option<ConfigErr>
 /// What TOML is, and the value that a text spells, is what the crate `toml` reads. Where the document has a fault the
 /// first is told: an unknown key first, then key by key in the order of the table another kind of value, then a value
 /// out of range.
-#[tactic(auto, unfolding(crate::specs::Configuration::answer))]
+#[tactic(auto, unfolding(crate::specs::Configuration::config_answer))]
 pub fn read_config(alloc: Global, text: &[u8]) -> Result<Config, ConfigErr>
     // The configuration that the text says at the keys, where it has no fault, or else its first fault.
-    ensures answer { IsUnlessMemory Memory (answer text.now) result }
+    ensures answer { IsUnlessMemory Memory (config_answer text.now) result }
 
     // A configuration is one that the table of keys takes.
     ensures of_table { IfOk result IsOfTable }

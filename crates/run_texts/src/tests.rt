@@ -1,4 +1,6 @@
-use crate::{TextErr, TextWhy, read_script};
+mod configurations;
+
+use crate::{TextErr, TextWhy, read_schedule, read_script};
 use lf_model::config::{Config, Shape, Words};
 use lf_model::flip::Flip;
 use lf_model::image::Range;
@@ -162,5 +164,43 @@ fn most_flips(rt: HostRuntime) -> Result<(), Fail> {
             why: TextWhy::Word
         })
     );
+    Ok(())
+}
+
+/// Texts that are schedules, which have no events so far.
+const SCHEDULES: [&[u8]; 4] = [
+    b"",
+    b"\n\r\n \t\r\n",
+    b"#core 0 1",
+    b"# core 0\n\t #\r\n#\n",
+];
+
+/// Texts that are no schedules, and the number of the first line of each that says something.
+const STATEMENTS: [(&[u8], u64); 6] = [
+    (b"core 0 1", 1),
+    (b"\r", 1),
+    (b" \xff\n", 1),
+    (b"#\n# scrub\r\n\t\ndrain 0 #\nscrub", 4),
+    (b"\n\r\n\r\r\n", 3),
+    (b"\n\n\n\n1", 5),
+];
+
+#[test]
+fn schedules(rt: HostRuntime) -> Result<(), Fail> {
+    let alloc = rt.alloc();
+    let config = machine(alloc);
+    for text in SCHEDULES {
+        assert_eq!(rt;
+            read_schedule(alloc, text, &config)?.len(),
+            0,
+            "in {text:?}"
+        );
+    }
+    let why = TextWhy::Word;
+    for (text, line) in STATEMENTS {
+        let answer = read_schedule(alloc, text, &config).err();
+        assert_eq!(rt; answer, Some(TextErr::At { line, why }), "in {text:?}");
+    }
+    assert_eq!(rt; why.word(), "word");
     Ok(())
 }

@@ -1,5 +1,4 @@
 -- An array of few enough numbers in range.
-use Rattle.std.proofs.Common.{sym, ◌∙◌}
 use Rattle.run_texts.proofs.DocumentLemmas.{integers_within}
 use Rattle.run_texts.proofs.values.is_within.Goals as goal
 
