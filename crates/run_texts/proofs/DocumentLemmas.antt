@@ -86,14 +86,14 @@ pub keys_of-view : (test : List ℕ → Bool) (es : List (String Global × Value
 keys_of-view test [] = refl
 keys_of-view test (e ∷ es) = ap (λ others. test (string_bytes e.0) && others) (keys_of-view test es)
 
-entries-table : (value : Data) (members : Members) → Some members ≡ as_table value → entries value ≡ entries_of members
-entries-table (string s) members is = absurd cc
-entries-table (integer z) members is = absurd cc
-entries-table (float x) members is = absurd cc
-entries-table (boolean b) members is = absurd cc
-entries-table (datetime dt) members is = absurd cc
-entries-table (array ds) members is = absurd cc
-entries-table (table ms) members is = let same : ms ≡ members = cc in ap entries_of same
+entries-table : (value : Data) (shown : Members) → Some shown ≡ as_table value → entries value ≡ entries_of shown
+entries-table (string s) shown is = absurd cc
+entries-table (integer z) shown is = absurd cc
+entries-table (float x) shown is = absurd cc
+entries-table (boolean b) shown is = absurd cc
+entries-table (datetime dt) shown is = absurd cc
+entries-table (array ds) shown is = absurd cc
+entries-table (table ms) shown is = let same : ms ≡ shown = cc in ap entries_of same
 
 -- a member that is a table is known where its section and its keys are
 pub known_table : (section : List ℕ) (value : Data) (m : BTreeMap (String Global) Value) (are_keys : Bool) → is_section section ≡ true

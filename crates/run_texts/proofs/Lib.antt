@@ -7,3 +7,4 @@ pub mod ScheduleLemmas
 pub mod DocumentLemmas
 pub mod FaultLemmas
 pub mod TableLemmas
+pub mod AnswerLemmas

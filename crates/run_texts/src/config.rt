@@ -1,4 +1,4 @@
-ghost use Rattle.std.specs.Prelude.{◌≡◌, IfOk};
+ghost use Rattle.std.specs.Prelude.{◌≡◌, ◌≢◌, Err, IfOk};
 ghost use Rattle.std.specs.List.{flat_map};
 ghost use Rattle.toml.specs.View.{table_view};
 ghost use Rattle.run_texts.specs.declared.config_error.ConfigErr.TheVariants.{Memory};
@@ -117,6 +117,9 @@ fn fault_of(document: &Table, config: &Config) -> Option<ConfigErr>
 pub fn read_config(alloc: Global, text: &[u8]) -> Result<Config, ConfigErr>
     // The configuration that the text says at the keys, where it has no fault, or else its first fault.
     ensures answer { IsUnlessMemory Memory (config_answer text.now) result }
+
+    // Want of memory is no fault of a text.
+    ensures of_text { config_answer text.now ≢ Err Memory }
 
     // A configuration is one that the table of keys takes.
     ensures of_table { IfOk result IsOfTable }

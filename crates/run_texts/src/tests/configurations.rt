@@ -8,7 +8,7 @@ use lf_model::config::Config;
 use std::test::Fail;
 
 /// The numbers of a configuration where the text says none.
-const DEFAULTS: [(Key, u32); 12] = [
+static DEFAULTS: [(Key, u32); 12] = [
     (Cores, 1),
     (Ram, 1_048_576),
     (Steps, 100_000),
@@ -24,7 +24,7 @@ const DEFAULTS: [(Key, u32); 12] = [
 ];
 
 /// Texts that are configurations, and the numbers of each that are not those of `DEFAULTS`.
-const ACCEPTED: [(&str, &[(Key, u32)]); 26] = [
+static ACCEPTED: [(&str, &[(Key, u32)]); 26] = [
     ("", &[]),
     ("# [machine]\n\n\t# cores = 9\r\n", &[]),
     ("\u{feff}machine.cores = 1", &[]),
@@ -74,7 +74,7 @@ const ACCEPTED: [(&str, &[(Key, u32)]); 26] = [
 ];
 
 /// Texts that are no configurations, and what is told of each.
-const REFUSED: [(&str, ConfigErr); 117] = [
+static REFUSED: [(&str, ConfigErr); 117] = [
     ("machine", Text),
     ("machine.cores = ", Text),
     ("machine.cores = 01", Text),
@@ -230,23 +230,27 @@ fn number_at(config: &Config, key: Key) -> Option<u32> {
 }
 
 #[test]
-fn configurations(rt: HostRuntime) -> Result<(), Fail> {
-    let alloc = rt.alloc();
-    for (text, changes) in ACCEPTED {
-        let config = read_config(alloc, text.as_bytes()).expect(&rt, text);
-        for (key, default) in DEFAULTS {
-            let change = changes.iter().find(|change| change.0 == key);
-            let wanted = change.map_or(default, |change| change.1);
+fn accepted(rt: HostRuntime) -> Result<(), Fail> {
+    for (text, changes) in &ACCEPTED {
+        let config = read_config(rt.alloc(), text.as_bytes())?;
+        for (key, default) in &DEFAULTS {
+            let change = changes.iter().find(|change| change.0 == *key);
+            let wanted = change.map_or(*default, |change| change.1);
             let name = key.name();
-            assert_eq!(rt; number_at(&config, key), Some(wanted), "{name} of {text}");
+            assert_eq!(rt; number_at(&config, *key), Some(wanted), "{name} of {text}");
         }
         assert_eq!(rt; config.watch.len(), 0, "of {text}");
     }
-    for (text, wanted) in REFUSED {
-        let answer = read_config(alloc, text.as_bytes()).err();
-        assert_eq!(rt; answer, Some(wanted), "of {text}");
-    }
-    assert_eq!(rt; read_config(alloc, b"# \xff").err(), Some(Text));
     assert_eq!(rt; ScrubTurns.name(), "scrub.turns");
+    Ok(())
+}
+
+#[test]
+fn refused(rt: HostRuntime) -> Result<(), Fail> {
+    for (text, wanted) in &REFUSED {
+        let answer = read_config(rt.alloc(), text.as_bytes()).err();
+        assert_eq!(rt; answer, Some(*wanted), "of {text}");
+    }
+    assert_eq!(rt; read_config(rt.alloc(), b"# \xff").err(), Some(Text));
     Ok(())
 }
