@@ -1,0 +1,3 @@
+pub mod Playable
+pub mod Transfers
+pub mod Played
