@@ -3,7 +3,7 @@
 use Rattle.std.specs.Prelude.{ℕ, ◌≡◌, ◌≤◌, ◌<◌, ◌+◌, ◌-◌, ◌*◌, ◌%◌, List, [], ◌∷◌, ◌++◌, length, map, slice_get, IfSome, IsTrue, true, false, Bool}
 use Rattle.std.specs.List.{AllByRecursion, count_by, range_with_len}
 use Rattle.lf_model.specs.Start.{is_in_ram}
-use Rattle.lf_model.specs.Flips.{syndrome}
+use Rattle.lf_model.specs.Flips.{Moment, syndrome}
 use Rattle.lf_model.specs.Places.{FailsNowhere}
 use Rattle.lf_model.specs.Results.{idle_steps}
 use Rattle.lf_model.specs.StopCause.{history_met, transfers_of}
@@ -23,39 +23,38 @@ use Rattle.ahb_bus.specs.BusState.{packed, without_length}
 
 -- ---- what each transfer tells
 
--- a fill for a load: a line of eight words, with the syndromes that they had at this turn
-pub record IsFill (setup : Setup) (trace : Trace) (turn : ℕ) (t : Transfer) : Type 0 where
+-- a fill for a load: a line of eight words, with the syndromes of their histories as they were met
+pub record IsFill (ram : ℕ) (met : ℕ → List Moment) (t : Transfer) : Type 0 where
   pub why : t.why ≡ Absent
   pub way : t.way ≡ 0
   pub line : t.addr % 32 ≡ 0
-  pub in_ram : IsTrue (is_in_ram setup.config.ram t.addr 32)
+  pub in_ram : IsTrue (is_in_ram ram t.addr 32)
   pub words : t.words ≡ 8
-  pub syn : t.syn ≡ packed (map (λ i. syndrome (history_met setup trace turn (t.addr + 4 * i))) (range_with_len 0 8))
+  pub syn : t.syn ≡ packed (map (λ i. syndrome (met (t.addr + 4 * i))) (range_with_len 0 8))
 
 -- a store of a whole word, which is written without a read
-pub record IsWordStore (setup : Setup) (t : Transfer) : Type 0 where
+pub record IsWordStore (ram : ℕ) (t : Transfer) : Type 0 where
   pub why : t.why ≡ Full
   pub way : t.way ≡ 0
   pub word : t.addr % 4 ≡ 0
-  pub in_ram : IsTrue (is_in_ram setup.config.ram t.addr 4)
+  pub in_ram : IsTrue (is_in_ram ram t.addr 4)
   pub words : t.words ≡ 0
   pub syn : t.syn ≡ 0
 
 -- no other transfers come
-abbrev pub IsFillOrStore : Setup → Trace → ℕ → Transfer → TurnKind → Type 0
-IsFillOrStore setup trace turn t Load = IsFill setup trace turn t
-IsFillOrStore setup trace turn t Store = IsWordStore setup t
-IsFillOrStore setup trace turn t _ = ⊥
+abbrev pub IsFillOrStore : ℕ → (ℕ → List Moment) → Transfer → TurnKind → Type 0
+IsFillOrStore ram met t Load = IsFill ram met t
+IsFillOrStore ram met t Store = IsWordStore ram t
+IsFillOrStore ram met t _ = ⊥
 
--- the transfer of this turn, by core 0
-pub record IsTransfer (setup : Setup) (trace : Trace) (turn : ℕ) (t : Transfer) : Type 0 where
+-- the transfer of this turn, by core 0, where its turn met words with these histories
+pub record IsTransfer (ram : ℕ) (met : ℕ → List Moment) (turn : ℕ) (t : Transfer) : Type 0 where
   pub number : t.turn ≡ turn
   pub master : t.master ≡ 0
-  pub len : t.len ≡ 0
-  pub made : IsFillOrStore setup trace turn t t.kind
+  pub made : IsFillOrStore ram met t t.kind
 
 abbrev pub TransferAt : Setup → Trace → ℕ → Type 0
-TransferAt setup trace turn = IfSome (slice_get trace.transfers turn) (IsTransfer setup trace turn)
+TransferAt setup trace turn = IfSome (slice_get trace.transfers turn) (IsTransfer setup.config.ram (history_met setup trace turn) turn)
 
 -- ---- which transfer each operation makes
 
@@ -86,6 +85,11 @@ service_of _ o = record { kind = Store; addr = o.addr; len = o.len; step = o.ste
 abbrev pub service_for : Op → Service
 service_for o = service_of o.kind o
 
+-- the fill of a line
+pub record IsLineFill (s : Service) : Type 0 where
+  pub kind : s.kind ≡ Load
+  pub len : s.len ≡ 0
+
 -- behind the last operation stands the fill of a load that stops the core, or of one that the limit came before; no other
 abbrev pub IsLeft : CoreEnd → List Service → Type 0
 IsLeft (Halt tt_) left = left ≡ []
@@ -115,6 +119,7 @@ pub record TellsTransfers (setup : Setup) (trace : Trace) : Type 0 where
   pub each : FailsNowhere (length trace.transfers) (TransferAt setup trace)
   pub left : List Service
   pub served : map service_by (transfers_of trace) ≡ map service_for trace.order ++ left
+  pub fills : AllByRecursion IsLineFill left
   pub same : map without_length (transfers_of trace) ≡ trace.transfers
   pub behind : AllByRecursion (λ r. IsLeft r.end left) trace.cores
   pub ascending : HasAscendingSteps trace.transfers
