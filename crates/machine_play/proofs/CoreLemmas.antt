@@ -113,7 +113,7 @@ keeps_same setup old new same = record {
 
 keeps_pushed : (setup : Setup) (old new : List Entry) (got : ℕ) (a : Access) → new ≡ old ++ operation 0 (length old) got a ∷ []
     → (entry_reads (operation 0 (length old) got a) ≡ true → (b : ℕ) → touches b (operation 0 (length old) got a) ≡ true
-        → byte_got b (operation 0 (length old) got a) ≡ byte_after setup old b) → Keeps setup old new
+    → byte_got b (operation 0 (length old) got a) ≡ byte_after setup old b) → Keeps setup old new
 keeps_pushed setup old new got a pushed read = record {
   numbers = λ h. subst (λ (es : List Entry). NumberedFrom 0 es) (sym pushed) (numbered_push 0 old (operation 0 (length old) got a) h refl (omega arith));
   reads = λ h. subst (λ (es : List Entry). ReadsEach (initial_byte setup.image) es) (sym pushed)

@@ -9,3 +9,5 @@ mod TurnLemmas
 mod StepLemmas
 mod OutcomeLemmas
 mod StartingLemmas
+mod TraceLemmas
+mod PlayedLemmas

@@ -82,7 +82,7 @@ pub words_after_load : (setup : Setup) (es : List Entry) (e : Entry) (words : Li
 words_after_load setup es e words is h = record {
   each = λ i within. h.each i within
       ∙ number_at-same (byte_after setup es) (byte_after setup (es ++ e ∷ [])) (ram_first + 4 * i) (ram_first + 4 * i) 4
-          (λ j lt. sym (byte_after_load setup es e (ram_first + 4 * i + j) is));
+      (λ j lt. sym (byte_after_load setup es e (ram_first + 4 * i + j) is));
 }
 
 -- a word in RAM, by its place in the list of words

@@ -375,24 +375,30 @@ ended_stop setup step addr turn syn m bus' line named t bad turn_is syn_is =
     ap is_bad_word (sym met_word) ∙ sym (get_or_from_slice_get line.bad place (is_bad_word (met (record m.bus { begun = true }) (line_of addr + 4 * place))) false shows.bad) ∙ bad in
     record {
       core = r.core.is;
-      run = (r.core.run, (refl, record {
-        e = asked.e;
-        a = asked.a;
-        its = asked.its;
-        access = asked.access;
-        kind = asked.kind;
-        before = m.bus.transfers;
-        last = last;
-        transfers_are = transfers;
-        place_is = turn_is;
-        last_kind = refl;
-        last_master = refl;
-        last_step = omega arith;
-        word = addr;
-        lowest = ap (find (λ w. is_bad_word (met_in setup.flips bus'.transfers turn w))) (wanted_word asked.a addr asked.word.len asked.word.aligned asked.addr_is)
-            ∙ ap (λ (b : Bool). cond b (Some addr) None) is_bad;
-        syn_is = syn_is ∙ get_or_from_slice_get line.syn place _ 0 shows.syn ∙ ap syndrome met_word;
-      }));
+      run = (
+        r.core.run,
+        (
+          refl,
+          record {
+            e = asked.e;
+            a = asked.a;
+            its = asked.its;
+            access = asked.access;
+            kind = asked.kind;
+            before = m.bus.transfers;
+            last = last;
+            transfers_are = transfers;
+            place_is = turn_is;
+            last_kind = refl;
+            last_master = refl;
+            last_step = omega arith;
+            word = addr;
+            lowest = ap (find (λ w. is_bad_word (met_in setup.flips bus'.transfers turn w))) (wanted_word asked.a addr asked.word.len asked.word.aligned asked.addr_is)
+                ∙ ap (λ (b : Bool). cond b (Some addr) None) is_bad;
+            syn_is = syn_is ∙ get_or_from_slice_get line.syn place _ 0 shows.syn ∙ ap syndrome met_word;
+          },
+        ),
+      );
       order = r.order;
       bus = line_bus setup step addr m bus' line t;
       left = record { kind = Load; addr = line_of addr; len = 0; step = step + 1 } ∷ [];

@@ -85,11 +85,11 @@ transfers_push setup ts t h new = record { each = at }
       | inl earlier ↦ subst (λ (o : Option Transfer). IfSome o (λ u. ToldIn setup ts t turn u)) (sym (slice_get_first ts (t ∷ []) turn earlier))
           (told_first setup ts t turn (slice_get ts turn) earlier (h.each turn))
       | inr later ↦ elim (cases_eq turn (length ts)) [
-          | inl last ↦ subst (λ (k : ℕ). IfSome (slice_get (ts ++ t ∷ []) k) (λ u. ToldIn setup ts t k u)) (sym last)
-              (subst (λ (o : Option Transfer). IfSome o (λ u. ToldIn setup ts t (length ts) u)) (sym (slice_get_seam ts t)) told_last)
-          | inr past ↦ subst (λ (o : Option Transfer). IfSome o (λ u. ToldIn setup ts t turn u))
-              (sym (slice_get_past (ts ++ t ∷ []) turn (omega (arith, length-append ts (t ∷ []))))) tt
-        ]
+        | inl last ↦ subst (λ (k : ℕ). IfSome (slice_get (ts ++ t ∷ []) k) (λ u. ToldIn setup ts t k u)) (sym last)
+            (subst (λ (o : Option Transfer). IfSome o (λ u. ToldIn setup ts t (length ts) u)) (sym (slice_get_seam ts t)) told_last)
+        | inr past ↦ subst (λ (o : Option Transfer). IfSome o (λ u. ToldIn setup ts t turn u))
+            (sym (slice_get_past (ts ++ t ∷ []) turn (omega (arith, length-append ts (t ∷ []))))) tt
+      ]
     ]
 
 -- a word as a turn that is begun meets it
@@ -107,7 +107,7 @@ met_now setup bus word flips =
 pub fill_told : (setup : Setup) (bus : BusState) (line : Line) (first step : ℕ) → bus.flips ≡ setup.flips → ram_size bus ≡ setup.config.ram
     → IsTrue (is_in_ram (ram_size bus) first 32) → first % 32 ≡ 0 → length line.syn ≡ 8 → ShowsLine (record bus { begun = true }) first line
     → IsTransfer setup.config.ram (met_in setup.flips bus.transfers (length bus.transfers)) (length bus.transfers)
-        (without_length (fill_made bus (core_in step) Load Absent first 0 line.syn))
+    (without_length (fill_made bus (core_in step) Load Absent first 0 line.syn))
 fill_told setup bus line first step flips ram inside aligned long shows = record {
   number = refl;
   master = refl;

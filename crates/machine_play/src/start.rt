@@ -66,5 +66,4 @@ pub fn word_at(bytes: &[u8], at: usize) -> u32
 /// For contracts alone: the items of a list of bytes are bytes.
 pub fn are_bytes(_bytes: &[u8])
     ensures { (k : ℕ) → slice_index _bytes.now k < 256 }
-{
-}
+{}
