@@ -12,6 +12,8 @@ mod results;
 mod run;
 mod start;
 mod step;
+#[cfg(test)]
+mod tests;
 mod turn;
 
 pub use run::play;
