@@ -1,0 +1,301 @@
+-- What an instruction comes to, by the line in the hand.
+use Rattle.std.proofs.Common.{◌≡◌, ℕ, ◌+◌, ◌<◌, ◌≤◌, ◌==◌, Bool, true, false, List, [], ◌∷◌, ◌++◌, length, Option, Some, None, cond, refl, ap, sym, subst, ◌∙◌, inl, inr, ◌⊎◌, is_some, arith, vec_len}
+use Rattle.std.proofs.lemmas.Bool.{cases_Bool, and_parts, leb-true, ltb-true}
+use Rattle.std.proofs.lemmas.Option.{same_Some}
+use Rattle.lf_model.specs.Start.{initial_byte, number_at}
+use Rattle.lf_model.specs.Operation.{entry_reads, touches, byte_got, byte_of, kind_reads}
+use Rattle.lf_model.specs.State.{State}
+use Rattle.lf_model.specs.Effect.{Access, Effect, Site}
+use Rattle.lf_model.specs.Traps.{trap_effect}
+use Rattle.lf_model.specs.Value.{stored}
+use Rattle.lf_model.specs.Run.{Run, operation, with_access, performed, site_of, effect_at_pc}
+use Rattle.lf_model.specs.Step.{Parts as Answers, first_bad, barrier_row, came_to, answer_of, run_after, Does, looked, counted, IsSound, state_of, Seen}
+use Rattle.lf_model.specs.declared.bus.Entry.{Entry}
+use Rattle.lf_model.specs.declared.bus.OpKind.{OpKind}
+use Rattle.lf_model.specs.declared.bus.OpKind.TheVariants as ops
+use Rattle.lf_model.specs.declared.bus.Why.{Why}
+use Rattle.lf_model.specs.declared.bus.Why.TheVariants.{Absent}
+use Rattle.lf_model.specs.declared.control.Arch.{Arch}
+use Rattle.lf_model.specs.declared.setup.Setup.{Setup}
+use Rattle.lf_model.specs.declared.step.Did.{Did}
+use Rattle.lf_model.specs.declared.step.Did.TheVariants.{Retired, Turned, Need, Halt, Stop, Unbuilt}
+use Rattle.lf_model.specs.declared.step.Turn.TheVariants.{Load}
+use Rattle.v8_exec.specs.Frame.{Counts}
+use Rattle.machine_play.specs.declared.hand.Hand.{Hand}
+use Rattle.machine_play.specs.declared.parts.Parts.{Parts}
+use Rattle.machine_play.specs.Hand.{byte_in, has_bytes, look_in, parts_with, IsHandOf}
+use Rattle.machine_play.specs.Seen.{seen_of, run_of, room_of}
+use Rattle.machine_play.specs.Memory.{entry_enters, NumberedFrom, ReadsEach, RunIs, halted, byte_after}
+use Rattle.machine_play.specs.Transfers.{line_of}
+use Rattle.machine_play.specs.Core.{IsCore, Runs, HandFits, IsWordAccess, MakesNothing, MakesLoad, MakesStore, Makes, IsLoadAt, Misses, Halts, IsUnbuilt, Comes}
+use Rattle.machine_play.specs.Core.Makes.{Nothing, ALoad, AStore}
+use Rattle.machine_play.proofs.EffectLemmas.{AccessFits, IsPlain, IsTrap, known}
+use Rattle.machine_play.proofs.EffectLemmas.AccessFits.{None_asked, Load_asked, Store_asked}
+use Rattle.machine_play.proofs.RunLemmas.{IsAnswer, run_further}
+use Rattle.machine_play.proofs.OneCore.{numbered_push}
+use Rattle.machine_play.proofs.NumberLemmas.{byte_of_number}
+use Rattle.machine_play.proofs.MemoryLemmas.{reads_push, load_reads}
+
+none_bad : (hand : Option Hand) (window : ℕ) (registers : List ℕ) → first_bad (parts_with hand) window registers ≡ None
+none_bad hand window [] = refl
+none_bad hand window (n ∷ ns) = elim (cases_Bool (n == 0)) [
+  | inl zero_is ↦ rw zero_is (none_bad hand window ns)
+  | inr other ↦ rw other (none_bad hand window ns)
+]
+
+no_barrier : (hand : Option Hand) (barrier : Option Why) → barrier_row (parts_with hand) barrier ≡ None
+no_barrier hand None = refl
+no_barrier hand (Some why) = refl
+
+-- what an instruction comes to that takes no trap
+nothing_comes : (hand : Option Hand) (s : State) (e : Effect) → e.trap ≡ None → e.access ≡ None → came_to (parts_with hand) s (Some e) ≡ Retired
+nothing_comes hand s e trap access = rw (none_bad hand s.ctl.cwp e.reads, trap, access, no_barrier hand e.barrier) refl
+
+store_comes : (hand : Option Hand) (s : State) (e : Effect) (a : Access) → e.trap ≡ None → e.access ≡ Some a → a.kind ≡ ops.Store → came_to (parts_with hand) s (Some e) ≡ Retired
+store_comes hand s e a trap access kind = rw (none_bad hand s.ctl.cwp e.reads, trap, access, kind, no_barrier hand e.barrier) refl
+
+load_hits : (h : Hand) (s : State) (e : Effect) (a : Access) → e.trap ≡ None → e.access ≡ Some a → a.kind ≡ ops.Load → has_bytes h a.addr a.len ≡ true
+    → came_to (parts_with (Some h)) s (Some e) ≡ Retired
+load_hits h s e a trap access kind has = rw (none_bad (Some h) s.ctl.cwp e.reads, trap, access, kind, has, no_barrier (Some h) e.barrier) refl
+
+load_misses : (s : State) (e : Effect) (a : Access) → e.trap ≡ None → e.access ≡ Some a → a.kind ≡ ops.Load
+    → came_to (parts_with None) s (Some e) ≡ Need (Load a.addr a.len Absent)
+load_misses s e a trap access kind = rw (none_bad None s.ctl.cwp e.reads, trap, access, kind) refl
+
+-- a trap enters the handler, or halts the core in the state as it was
+trap_enters : (hand : Option Hand) (s : State) (tt_ : ℕ) (registers : List ℕ) → s.ctl.et ≡ true → came_to (parts_with hand) s (Some (trap_effect tt_ registers s)) ≡ Retired
+trap_enters hand s tt_ registers enabled = rw (none_bad hand s.ctl.cwp registers, enabled) refl
+
+trap_halts : (hand : Option Hand) (s : State) (tt_ : ℕ) (registers : List ℕ) → s.ctl.et ≡ false → came_to (parts_with hand) s (Some (trap_effect tt_ registers s)) ≡ Halt tt_
+trap_halts hand s tt_ registers disabled = rw (none_bad hand s.ctl.cwp registers, disabled) refl
+
+-- with a line in the hand, the instruction at PC is the load that waits for it
+record WaitsFor (setup : Setup) (r : Run) (h : Hand) (e : Effect) : Type 0 where
+  pub a : Access
+  pub trap : e.trap ≡ None
+  pub access : e.access ≡ Some a
+  pub kind : a.kind ≡ ops.Load
+  pub has : has_bytes h a.addr a.len ≡ true
+  pub line : h.line ≡ line_of a.addr
+  pub bytes : (i : ℕ) → i < a.len → byte_in h (a.addr + i) ≡ byte_after setup r.ops (a.addr + i)
+
+waits : (setup : Setup) (r : Run) (h : Hand) (e : Effect) → IsHandOf setup r h → effect_at_pc setup 0 r.state ≡ Some e → WaitsFor setup r h e
+waits setup r h e fits its =
+    let same : e ≡ fits.e = same_Some e fits.e (sym its ∙ fits.its) in
+    record {
+      a = fits.a;
+      trap = ap (λ (x : Effect). x.trap) same ∙ fits.trap;
+      access = ap (λ (x : Effect). x.access) same ∙ fits.access;
+      kind = fits.kind;
+      has = fits.has;
+      line = fits.line;
+      bytes = fits.bytes;
+    }
+
+not_none : {X : Type 0} (x : X) → Some x ≡ None → ⊥
+not_none x h = cc
+
+-- the hand is empty where that cannot be
+no_hand : (setup : Setup) (r : Run) (hand : Option Hand) → HandFits setup r hand → ((h : Hand) → IsHandOf setup r h → ⊥) → hand ≡ None
+no_hand setup r None fits never = refl
+no_hand setup r (Some h) fits never = absurd (never h fits)
+
+-- operations stay numbered, and their loads read memory
+pub record Keeps (setup : Setup) (old new : List Entry) : Type 0 where
+  pub numbers : NumberedFrom 0 old → NumberedFrom 0 new
+  pub reads : ReadsEach (initial_byte setup.image) old → ReadsEach (initial_byte setup.image) new
+
+keeps_same : (setup : Setup) (old new : List Entry) → new ≡ old → Keeps setup old new
+keeps_same setup old new same = record {
+  numbers = λ h. subst (λ (es : List Entry). NumberedFrom 0 es) (sym same) h;
+  reads = λ h. subst (λ (es : List Entry). ReadsEach (initial_byte setup.image) es) (sym same) h;
+}
+
+keeps_pushed : (setup : Setup) (old new : List Entry) (got : ℕ) (a : Access) → new ≡ old ++ operation 0 (length old) got a ∷ []
+    → (entry_reads (operation 0 (length old) got a) ≡ true → (b : ℕ) → touches b (operation 0 (length old) got a) ≡ true
+    → byte_got b (operation 0 (length old) got a) ≡ byte_after setup old b) → Keeps setup old new
+keeps_pushed setup old new got a pushed read = record {
+  numbers = λ h. subst (λ (es : List Entry). NumberedFrom 0 es) (sym pushed) (numbered_push 0 old (operation 0 (length old) got a) h refl (omega arith));
+  reads = λ h. subst (λ (es : List Entry). ReadsEach (initial_byte setup.image) es) (sym pushed)
+      (reads_push (initial_byte setup.image) old (operation 0 (length old) got a) read h);
+}
+
+-- what an instruction comes to, and what it keeps
+pub record Came (setup : Setup) (hand : Option Hand) (old : Run) (did : Did) (n : ℕ) (new : Run) : Type 0 where
+  pub comes : Comes setup hand old did n new
+  pub keeps : Keeps setup old.ops new.ops
+
+-- the run before an instruction, and that instruction
+record Before (setup : Setup) (hand : Option Hand) (n : ℕ) (old new : Run) (did : Did) (e : Effect) : Type 0 where
+  pub run : RunIs setup n old
+  pub goes : is_some old.state.halt ≡ false
+  pub fits : HandFits setup old hand
+  pub its : effect_at_pc setup 0 old.state ≡ Some e
+  pub answer : did ≡ came_to (parts_with hand) old.state (Some e)
+  pub leaves : new ≡ run_after 0 (parts_with hand) did (Some e) old
+
+answer_is : (parts : Answers) (access : Option Access) → IsAnswer access (answer_of parts access)
+answer_is parts None = refl
+answer_is parts (Some a) = by_kind (kind_reads a.kind) (looked (parts.look a.addr a.len))
+  where
+    by_kind : (reads : Bool) (got : ℕ) → reads ≡ false → cond reads got 0 ≡ 0
+    by_kind true got other = absurd cc
+    by_kind false got other = refl
+
+-- an instruction that retires is one more instruction of the run
+record Retires (setup : Setup) (hand : Option Hand) (n : ℕ) (old new : Run) (e : Effect) : Type 0 where
+  pub next : new ≡ performed 0 (answer_of (parts_with hand) e.access) e old
+  pub run : RunIs setup (n + 1) new
+
+retires : (setup : Setup) (hand : Option Hand) (n : ℕ) (old new : Run) (did : Did) (e : Effect) → Before setup hand n old new did e → did ≡ Retired → Retires setup hand n old new e
+retires setup hand n old new did e b is =
+    let next : new ≡ performed 0 (answer_of (parts_with hand) e.access) e old = subst (λ (d : Did). new ≡ run_after 0 (parts_with hand) d (Some e) old) is b.leaves in
+    record {
+      next = next;
+      run = subst (λ (r : Run). RunIs setup (n + 1) r) (sym next)
+          (run_further setup 0 n old e (answer_of (parts_with hand) e.access) b.run b.goes b.its (answer_is (parts_with hand) e.access));
+    }
+
+-- the operations after an instruction that retires
+ops_after : (setup : Setup) (hand : Option Hand) (n : ℕ) (old new : Run) (e : Effect) (access : Option Access) → Retires setup hand n old new e → e.access ≡ access
+    → new.ops ≡ with_access 0 (answer_of (parts_with hand) access) access old.ops
+ops_after setup hand n old new e access r is =
+    ap (λ (q : Run). q.ops) r.next ∙ ap (λ (o : Option Access). with_access 0 (answer_of (parts_with hand) o) o old.ops) is
+
+as_retired : (setup : Setup) (hand : Option Hand) (old new : Run) (did : Did) (n : ℕ) → did ≡ Retired → RunIs setup (n + 1) new → Makes setup hand old.ops new.ops → Keeps setup old.ops new.ops
+    → Came setup hand old did (n + counted did) new
+as_retired setup hand old new did n is run makes keeps =
+    subst (λ (d : Did). Came setup hand old d (n + counted d) new) (sym is) (record { comes = (run, makes); keeps = keeps })
+
+came_nothing : (setup : Setup) (hand : Option Hand) (n : ℕ) (old new : Run) (did : Did) (e : Effect) → Before setup hand n old new did e → did ≡ Retired → e.access ≡ None
+    → Came setup hand old did (n + counted did) new
+came_nothing setup hand n old new did e b is access =
+    let r = retires setup hand n old new did e b is in
+    let same : new.ops ≡ old.ops = ops_after setup hand n old new e None r access in
+    let empty : hand ≡ None = no_hand setup old hand b.fits (λ h fits. let w = waits setup old h e fits b.its in not_none w.a (sym w.access ∙ access)) in
+    as_retired setup hand old new did n is r.run (Nothing (record { empty = empty; same = same })) (keeps_same setup old.ops new.ops same)
+
+came_trap : (setup : Setup) (hand : Option Hand) (n : ℕ) (old new : Run) (did : Did) (e : Effect) (et : Bool) → old.state.ctl.et ≡ et → Before setup hand n old new did e → IsTrap old.state e
+    → Came setup hand old did (n + counted did) new
+came_trap setup hand n old new did e true enabled b t =
+    came_nothing setup hand n old new did e b
+    (b.answer ∙ ap (λ (x : Effect). came_to (parts_with hand) old.state (Some x)) t.is ∙ trap_enters hand old.state t.tt_ t.registers enabled)
+    (ap (λ (x : Effect). x.access) t.is)
+came_trap setup hand n old new did e false disabled b t =
+    let is : did ≡ Halt t.tt_ = b.answer ∙ ap (λ (x : Effect). came_to (parts_with hand) old.state (Some x)) t.is ∙ trap_halts hand old.state t.tt_ t.registers disabled in
+    let same : new ≡ old = subst (λ (d : Did). new ≡ run_after 0 (parts_with hand) d (Some e) old) is b.leaves in
+    let empty : hand ≡ None = no_hand setup old hand b.fits (λ h fits. not_none t.tt_ (sym (ap (λ (x : Effect). x.trap) t.is) ∙ (waits setup old h e fits b.its).trap)) in
+    let none : e.access ≡ None = ap (λ (x : Effect). x.access) t.is in
+    let done : performed 0 0 e old ≡ halted t.tt_ old = rw (t.is, disabled) refl in
+    let further : RunIs setup (n + 1) (halted t.tt_ old) = subst (λ (r : Run). RunIs setup (n + 1) r) done
+    (run_further setup 0 n old e 0 b.run b.goes b.its (subst (λ (a : Option Access). IsAnswer a 0) (sym none) refl)) in
+    subst (λ (d : Did). Came setup hand old d (n + counted d) new) (sym is) (record {
+      comes = record { empty = empty; same = same; run = subst (λ (r : Run). RunIs setup (n + 1) (halted t.tt_ r)) (sym same) further };
+      keeps = keeps_same setup old.ops new.ops (ap (λ (r : Run). r.ops) same);
+    })
+
+came_store : (setup : Setup) (hand : Option Hand) (n : ℕ) (old new : Run) (did : Did) (e : Effect) (a : Access) → Before setup hand n old new did e → e.trap ≡ None → e.access ≡ Some a
+    → a.kind ≡ ops.Store → IsWordAccess setup.config.ram a → Came setup hand old did (n + counted did) new
+came_store setup hand n old new did e a b trap access kind word =
+    let is : did ≡ Retired = b.answer ∙ store_comes hand old.state e a trap access kind in
+    let r = retires setup hand n old new did e b is in
+    let got : ℕ = answer_of (parts_with hand) (Some a) in
+    let pushed : new.ops ≡ old.ops ++ operation 0 (length old.ops) got a ∷ [] = ops_after setup hand n old new e (Some a) r access in
+    let empty : hand ≡ None = no_hand setup old hand b.fits (λ h fits.
+    let w = waits setup old h e fits b.its in
+    let same : w.a ≡ a = same_Some w.a a (sym w.access ∙ access) in
+    load_no_store w.a.kind w.kind (ap (λ (x : Access). x.kind) same ∙ kind)) in
+    as_retired setup hand old new did n is r.run
+    (AStore (operation 0 (length old.ops) got a) (record { empty = empty; kind = kind; len = word.len; aligned = word.aligned; in_ram = word.in_ram; pushed = pushed }))
+    (keeps_pushed setup old.ops new.ops got a pushed (λ reader. absurd (store_no_reader a.kind kind reader)))
+  where
+    load_no_store : (kind : OpKind) → kind ≡ ops.Load → kind ≡ ops.Store → ⊥
+    load_no_store kind load store = cc
+
+    store_no_reader : (kind : OpKind) → kind ≡ ops.Store → kind_reads kind ≡ true → ⊥
+    store_no_reader kind store reader = let no : kind_reads kind ≡ false = ap kind_reads store in cc
+
+-- a load from the hand reads what memory holds
+came_hit : (setup : Setup) (h : Hand) (n : ℕ) (old new : Run) (did : Did) (e : Effect) (a : Access) → Before setup (Some h) n old new did e → e.trap ≡ None → e.access ≡ Some a
+    → a.kind ≡ ops.Load → Came setup (Some h) old did (n + counted did) new
+came_hit setup h n old new did e a b trap access kind =
+    let w = waits setup old h e b.fits b.its in
+    let same : w.a ≡ a = same_Some w.a a (sym w.access ∙ access) in
+    let has : has_bytes h a.addr a.len ≡ true = ap (λ (x : Access). has_bytes h x.addr x.len) (sym same) ∙ w.has in
+    let is : did ≡ Retired = b.answer ∙ load_hits h old.state e a trap access kind has in
+    let r = retires setup (Some h) n old new did e b is in
+    let got : ℕ = answer_of (parts_with (Some h)) (Some a) in
+    let pushed : new.ops ≡ old.ops ++ operation 0 (length old.ops) got a ∷ [] = ops_after setup (Some h) n old new e (Some a) r access in
+    let value : got ≡ number_at (byte_in h) a.addr a.len = rw (kind, has) refl in
+    let bytes : (i : ℕ) → i < a.len → byte_in h (a.addr + i) ≡ byte_after setup old.ops (a.addr + i) =
+    subst (λ (x : Access). (i : ℕ) → i < x.len → byte_in h (x.addr + i) ≡ byte_after setup old.ops (x.addr + i)) same w.bytes in
+    as_retired setup (Some h) old new did n is r.run
+    (ALoad (operation 0 (length old.ops) got a) (record { h = h; held = refl; line = w.line ∙ ap (λ (x : Access). line_of x.addr) same; kind = kind; pushed = pushed }))
+    (keeps_pushed setup old.ops new.ops got a pushed (λ reader.
+    load_reads (initial_byte setup.image) old.ops (operation 0 (length old.ops) got a) (byte_in h) value (λ i. omega arith) bytes))
+
+came_miss : (setup : Setup) (n : ℕ) (old new : Run) (did : Did) (e : Effect) (a : Access) → Before setup None n old new did e → e.trap ≡ None → e.access ≡ Some a
+    → a.kind ≡ ops.Load → IsWordAccess setup.config.ram a → Came setup None old did (n + counted did) new
+came_miss setup n old new did e a b trap access kind word =
+    let is : did ≡ Need (Load a.addr a.len Absent) = b.answer ∙ load_misses old.state e a trap access kind in
+    let same : new ≡ old = subst (λ (d : Did). new ≡ run_after 0 (parts_with None) d (Some e) old) is b.leaves in
+    subst (λ (d : Did). Came setup None old d (n + counted d) new) (sym is) (record {
+      comes = record {
+        empty = refl;
+        same = same;
+        asked = subst (λ (r : Run). IsLoadAt setup r a.addr a.len) (sym same)
+            (record { e = e; a = a; its = b.its; trap = trap; access = access; kind = kind; word = word; addr_is = refl; len_is = refl });
+      };
+      keeps = keeps_same setup old.ops new.ops (ap (λ (r : Run). r.ops) same);
+    })
+
+came_load : (setup : Setup) (hand : Option Hand) (n : ℕ) (old new : Run) (did : Did) (e : Effect) (a : Access) → Before setup hand n old new did e → e.trap ≡ None → e.access ≡ Some a
+    → a.kind ≡ ops.Load → IsWordAccess setup.config.ram a → Came setup hand old did (n + counted did) new
+came_load setup None n old new did e a b trap access kind word = came_miss setup n old new did e a b trap access kind word
+came_load setup (Some h) n old new did e a b trap access kind word = came_hit setup h n old new did e a b trap access kind
+
+came_plain : (setup : Setup) (hand : Option Hand) (n : ℕ) (old new : Run) (did : Did) (e : Effect) → Before setup hand n old new did e → e.trap ≡ None → AccessFits setup.config.ram e.access
+    → Came setup hand old did (n + counted did) new
+came_plain setup hand n old new did e b trap (None_asked access) =
+    came_nothing setup hand n old new did e b (b.answer ∙ nothing_comes hand old.state e trap access) access
+came_plain setup hand n old new did e b trap (Load_asked a access kind word) = came_load setup hand n old new did e a b trap access kind word
+came_plain setup hand n old new did e b trap (Store_asked a access kind word) = came_store setup hand n old new did e a b trap access kind word
+
+came_by : (setup : Setup) (hand : Option Hand) (n : ℕ) (old new : Run) (did : Did) (e : Effect) → Before setup hand n old new did e → IsTrap old.state e ⊎ IsPlain setup.config.ram e
+    → Came setup hand old did (n + counted did) new
+came_by setup hand n old new did e b (inl trap) = came_trap setup hand n old new did e old.state.ctl.et refl b trap
+came_by setup hand n old new did e b (inr plain) = came_plain setup hand n old new did e b plain.trap plain.access
+
+came_of : (setup : Setup) (hand : Option Hand) (n : ℕ) (old new : Run) (did : Did) (o : Option Effect) → effect_at_pc setup 0 old.state ≡ o → RunIs setup n old → is_some old.state.halt ≡ false
+    → HandFits setup old hand → did ≡ came_to (parts_with hand) old.state o → new ≡ run_after 0 (parts_with hand) did o old → Came setup hand old did (n + counted did) new
+came_of setup hand n old new did None its run goes fits answer leaves =
+    let same : new ≡ old = subst (λ (d : Did). new ≡ run_after 0 (parts_with hand) d None old) answer leaves in
+    let empty : hand ≡ None = no_hand setup old hand fits (λ h f. not_none f.e (sym f.its ∙ its)) in
+    subst (λ (d : Did). Came setup hand old d (n + counted d) new) (sym answer) (record {
+      comes = record { empty = empty; same = same; none = ap (λ (r : Run). effect_at_pc setup 0 r.state) same ∙ its };
+      keeps = keeps_same setup old.ops new.ops (ap (λ (r : Run). r.ops) same);
+    })
+came_of setup hand n old new did (Some e) its run goes fits answer leaves =
+    came_by setup hand n old new did e (record { run = run; goes = goes; fits = fits; its = its; answer = answer; leaves = leaves }) (known setup 0 old.state e its)
+
+pub came : (setup : Setup) (hand : Option Hand) (n : ℕ) (old new : Run) (did : Did) → RunIs setup n old → is_some old.state.halt ≡ false → HandFits setup old hand
+    → Does 0 (parts_with hand) (effect_at_pc setup 0 old.state) did old new → Came setup hand old did (n + counted did) new
+came setup hand n old new did run goes fits does = came_of setup hand n old new did (effect_at_pc setup 0 old.state) refl run goes fits does.answer does.leaves
+
+-- the core after an instruction
+pub core_after : (setup : Setup) (hand : Option Hand) (arch arch' : Arch) (parts parts' : Parts) (did : Did) (spare left : ℕ) → IsCore setup arch parts
+    → Came setup hand (run_of arch parts) did (arch.n + counted did) (run_of arch' parts') → Counts arch arch' (seen_of parts) (seen_of parts') spare left did → IsCore setup arch' parts'
+core_after setup hand arch arch' parts parts' did spare left core done counts = record {
+  sound = counts.sound;
+  core = counts.core ∙ core.core;
+  site = counts.site ∙ core.site;
+  k = omega (arith, counts.k, core.k, parts.ops.ok.0, parts'.ops.ok.0);
+  numbers = done.keeps.numbers core.numbers;
+  reads = done.keeps.reads core.reads;
+}
+
+pub comes_after : (setup : Setup) (hand : Option Hand) (arch arch' : Arch) (parts parts' : Parts) (did : Did) (spare left : ℕ)
+    → Came setup hand (run_of arch parts) did (arch.n + counted did) (run_of arch' parts') → Counts arch arch' (seen_of parts) (seen_of parts') spare left did
+    → Comes setup hand (run_of arch parts) did arch'.n (run_of arch' parts')
+comes_after setup hand arch arch' parts parts' did spare left done counts =
+    subst (λ (n : ℕ). Comes setup hand (run_of arch parts) did n (run_of arch' parts')) (sym counts.n) done.comes

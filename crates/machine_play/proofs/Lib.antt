@@ -1,0 +1,13 @@
+mod StartLemmas
+mod NumberLemmas
+mod RunLemmas
+mod OneCore
+mod EffectLemmas
+mod MemoryLemmas
+mod CoreLemmas
+mod TurnLemmas
+mod StepLemmas
+mod OutcomeLemmas
+mod StartingLemmas
+mod TraceLemmas
+mod PlayedLemmas

@@ -1,0 +1,113 @@
+-- What one instruction makes of a core without caches, by the line in its hand.
+use Rattle.std.specs.Prelude.{ℕ, ◌≡◌, ◌<◌, ◌+◌, ◌%◌, ◌++◌, ◌∷◌, [], true, List, length, Option, Some, None, vec_len}
+use Rattle.lf_model.specs.Start.{initial_byte, is_in_ram, number_at}
+use Rattle.lf_model.specs.Effect.{Access, Effect}
+use Rattle.lf_model.specs.Run.{Run, site_of, operation, effect_at_pc}
+use Rattle.lf_model.specs.Step.{IsSound}
+use Rattle.lf_model.specs.declared.bus.Entry.{Entry}
+use Rattle.lf_model.specs.declared.bus.OpKind.TheVariants as ops
+use Rattle.lf_model.specs.declared.bus.Why.{Why}
+use Rattle.lf_model.specs.declared.bus.Why.TheVariants.{Absent}
+use Rattle.lf_model.specs.declared.control.Arch.{Arch}
+use Rattle.lf_model.specs.declared.setup.Setup.{Setup}
+use Rattle.lf_model.specs.declared.step.Did.{Did}
+use Rattle.lf_model.specs.declared.step.Did.TheVariants.{Retired, Need, Halt, Unbuilt}
+use Rattle.lf_model.specs.declared.step.Turn.{Turn}
+use Rattle.lf_model.specs.declared.step.Turn.TheVariants.{Load}
+use Rattle.machine_play.specs.declared.hand.Hand.{Hand}
+use Rattle.machine_play.specs.declared.parts.Parts.{Parts}
+use Rattle.machine_play.specs.Hand.{byte_in, IsHandOf}
+use Rattle.machine_play.specs.Seen.{seen_of, run_of}
+use Rattle.machine_play.specs.Memory.{NumberedFrom, ReadsEach, RunIs, halted, byte_after}
+use Rattle.machine_play.specs.Transfers.{line_of}
+
+-- what holds of core 0 at each step: its bounds, its place in the setup, and its operations, whose loads read memory
+pub record IsCore (setup : Setup) (arch : Arch) (parts : Parts) : Type 0 where
+  pub sound : IsSound arch
+  pub core : arch.core ≡ 0
+  pub site : (seen_of parts).site ≡ site_of setup 0
+  pub k : arch.k ≡ vec_len parts.ops
+  pub numbers : NumberedFrom 0 parts.ops.items
+  pub reads : ReadsEach (initial_byte setup.image) parts.ops.items
+
+-- the core after some instructions
+pub record Runs (setup : Setup) (arch : Arch) (parts : Parts) : Type 0 where
+  pub is : IsCore setup arch parts
+  pub run : RunIs setup arch.n (run_of arch parts)
+
+-- the line in the hand, if there is one, is that of the load at PC
+abbrev pub HandFits : Setup → Run → Option Hand → Type 0
+HandFits setup r None = Unit {0}
+HandFits setup r (Some h) = IsHandOf setup r h
+
+-- an access to a word of RAM
+pub record IsWordAccess (ram : ℕ) (a : Access) : Type 0 where
+  pub len : a.len ≡ 4
+  pub aligned : a.addr % 4 ≡ 0
+  pub in_ram : is_in_ram ram a.addr 4 ≡ true
+
+-- an instruction that retires with no operation
+pub record MakesNothing (hand : Option Hand) (old new : List Entry) : Type 0 where
+  pub empty : hand ≡ None
+  pub same : new ≡ old
+
+-- one that retires with a load from the hand
+pub record MakesLoad (setup : Setup) (hand : Option Hand) (old new : List Entry) (e : Entry) : Type 0 where
+  pub h : Hand
+  pub held : hand ≡ Some h
+  pub line : h.line ≡ line_of e.addr
+  pub kind : e.kind ≡ ops.Load
+  pub pushed : new ≡ old ++ e ∷ []
+
+-- one that retires with a store of a word
+pub record MakesStore (setup : Setup) (hand : Option Hand) (old new : List Entry) (e : Entry) : Type 0 where
+  pub empty : hand ≡ None
+  pub kind : e.kind ≡ ops.Store
+  pub len : e.len ≡ 4
+  pub aligned : e.addr % 4 ≡ 0
+  pub in_ram : is_in_ram setup.config.ram e.addr 4 ≡ true
+  pub pushed : new ≡ old ++ e ∷ []
+
+-- what an instruction that retires makes
+pub data Makes (setup : Setup) (hand : Option Hand) (old new : List Entry) : Type 0 where
+  Nothing : MakesNothing hand old new → Makes setup hand old new
+  ALoad : (e : Entry) → MakesLoad setup hand old new e → Makes setup hand old new
+  AStore : (e : Entry) → MakesStore setup hand old new e → Makes setup hand old new
+
+-- the instruction at PC is a load of these bytes, a word of RAM
+pub record IsLoadAt (setup : Setup) (r : Run) (addr len : ℕ) : Type 0 where
+  pub e : Effect
+  pub a : Access
+  pub its : effect_at_pc setup 0 r.state ≡ Some e
+  pub trap : e.trap ≡ None
+  pub access : e.access ≡ Some a
+  pub kind : a.kind ≡ ops.Load
+  pub word : IsWordAccess setup.config.ram a
+  pub addr_is : addr ≡ a.addr
+  pub len_is : len ≡ a.len
+
+-- a load of these bytes misses, and all is as before
+pub record Misses (setup : Setup) (hand : Option Hand) (old new : Run) (addr len : ℕ) : Type 0 where
+  pub empty : hand ≡ None
+  pub same : new ≡ old
+  pub asked : IsLoadAt setup new addr len
+
+-- the core halts, in the state as it was
+pub record Halts (setup : Setup) (hand : Option Hand) (old new : Run) (n tt_ : ℕ) : Type 0 where
+  pub empty : hand ≡ None
+  pub same : new ≡ old
+  pub run : RunIs setup n (halted tt_ new)
+
+-- the instruction is not built
+pub record IsUnbuilt (setup : Setup) (hand : Option Hand) (old new : Run) : Type 0 where
+  pub empty : hand ≡ None
+  pub same : new ≡ old
+  pub none : effect_at_pc setup 0 new.state ≡ None
+
+-- what one instruction comes to, of a core whose run was old and is now new, after n instructions; no other answers come
+abbrev pub Comes : Setup → Option Hand → Run → Did → ℕ → Run → Type 0
+Comes setup hand old Retired n new = RunIs setup n new × Makes setup hand old.ops new.ops
+Comes setup hand old (Halt tt_) n new = Halts setup hand old new n tt_
+Comes setup hand old (Need (Load addr len why)) n new = Misses setup hand old new addr len
+Comes setup hand old Unbuilt n new = IsUnbuilt setup hand old new
+Comes setup hand old _ n new = ⊥

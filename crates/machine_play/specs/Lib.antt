@@ -1,0 +1,10 @@
+pub mod Playable
+pub mod Transfers
+pub mod Played
+pub mod Memory
+pub mod Hand
+pub mod Seen
+pub mod Core
+pub mod Machine
+pub mod Ending
+pub mod Result

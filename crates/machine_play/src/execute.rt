@@ -1,0 +1,46 @@
+ghost use Rattle.std.specs.Prelude.{◌≡◌, ◌<◌, ◌+◌, ◌^◌};
+ghost use Rattle.lf_model.specs.Run.{site_of, effect_at_pc};
+ghost use Rattle.lf_model.specs.Step.{IsSound, state_of, Does};
+ghost use Rattle.v8_exec.specs.Frame.{Counts};
+ghost use Rattle.machine_play.specs.Hand.{parts_with};
+ghost use Rattle.machine_play.specs.Seen.{seen_of, room_of, run_of};
+ghost use Rattle.machine_play.specs.Core.{IsCore, Runs, HandFits, Comes};
+
+use crate::hand::Hand;
+use crate::parts::Parts;
+use crate::program::Program;
+use lf_model::step::Did;
+use v8_exec::Arch;
+
+/// The instruction at PC, or the trap of a PC that is no text word.
+#[tactic(auto, unfolding(lf_model::specs::Run::effect_at_pc))]
+fn instruction(program: &Program, arch: &mut Arch, parts: &mut Parts) -> Did
+    requires site { (seen_of parts.old).site ≡ site_of program.now.setup.now 0 }
+    requires sound { IsSound arch.old }
+    requires core { arch.old.core ≡ 0 }
+    requires instructions { arch.old.n + 1 < 2 ^ 32 }
+    requires operations { arch.old.k + 1 < 2 ^ 32 }
+    requires room { 0 < room_of parts.old }
+    ensures does { Does 0 (parts_with parts.old.hand) (effect_at_pc program.now.setup.now 0 (state_of arch.old (seen_of parts.old))) result (run_of arch.old parts.old) (run_of arch.new parts.new) }
+    ensures counts { Counts arch.old arch.new (seen_of parts.old) (seen_of parts.new) (room_of parts.old) (room_of parts.new) result }
+{
+    match program.fetch(arch.ctl.pc) {
+        Some(word) => v8_exec::exec(arch, word, parts),
+        None => v8_exec::fetch_trap(arch, parts),
+    }
+}
+
+/// One instruction of a core that holds this line. A load takes its word from it.
+pub fn execute(program: &Program, arch: &mut Arch, parts: &mut Parts, hand: Option<Hand>) -> Did
+    requires runs { Runs program.now.setup.now arch.old parts.old }
+    requires hand { HandFits program.now.setup.now (run_of arch.old parts.old) hand }
+    requires instructions { arch.old.n + 1 < 2 ^ 32 }
+    requires operations { arch.old.k + 1 < 2 ^ 32 }
+    requires room { 0 < room_of parts.old }
+    ensures comes { Comes program.now.setup.now hand (run_of arch.old parts.old) result arch.new.n (run_of arch.new parts.new) }
+    ensures core { IsCore program.now.setup.now arch.new parts.new }
+    ensures counts { Counts arch.old arch.new (seen_of parts.old) (seen_of parts.new) (room_of parts.old) (room_of parts.new) result }
+{
+    parts.hand = hand;
+    instruction(program, arch, parts)
+}

@@ -1,0 +1,122 @@
+ghost use Rattle.std.specs.Prelude.{◌≡◌, ◌<◌, ◌≤◌, ◌+◌, ◌-◌, ◌^◌, [], vec_len, IfOk, replicate, slice_set};
+ghost use Rattle.lf_model.specs.State.{cell};
+ghost use Rattle.machine_play.specs.Seen.{room_of};
+
+use crate::parts::Parts;
+use crate::program::Program;
+use crate::record::record;
+use lf_model::addresses;
+use lf_model::bus::{Entry, OpKind, Why};
+use lf_model::step::{Full, Look, RegBad};
+use std::alloc::{AllocError, Global};
+use v8_exec::Ports;
+
+/// The register cells of core 0 at reset.
+fn reset_cells(alloc: Global) -> Result<Vec<u32>, AllocError>
+    ensures count { IfOk result (λ cells. vec_len cells ≡ 136) }
+    ensures cells { IfOk result (λ cells. cells.items ≡ slice_set (replicate 136 0) (cell 0 8) 0) }
+{
+    let mut cells = vec![in alloc; 0; 136]?;
+    cells[8] = 0;
+    Ok(cells)
+}
+
+impl<'a> Parts<'a> {
+    /// The parts of core 0 at reset, with room for what so many steps may record.
+    pub fn reset(
+        alloc: Global,
+        program: &'a Program<'a>,
+        steps: u32,
+    ) -> Result<Parts<'a>, AllocError>
+        ensures program { IfOk result (λ parts. parts.program.now.setup.now ≡ program.entry.now.setup.now) }
+        ensures cells { IfOk result (λ parts. parts.cells.items ≡ slice_set (replicate 136 0) (cell 0 8) 0) }
+        ensures empty { IfOk result (λ parts. (parts.out.items ≡ []) × (parts.ops.items ≡ []) × (vec_len parts.ops ≡ 0)) }
+        ensures room { IfOk result (λ parts. steps < 2 ^ 32 - 1 → steps ≤ room_of parts) }
+    {
+        let room = steps as usize;
+        let cells = reset_cells(alloc)?;
+        let out = Vec::with_capacity(alloc, room)?;
+        let ops = Vec::with_capacity(alloc, room)?;
+        Ok(Parts {
+            program,
+            cells,
+            out,
+            ops,
+            hand: None,
+        })
+    }
+}
+
+impl<'a> Ports for Parts<'a> {
+    ghost use Rattle.machine_play.specs.Hand.{parts_with};
+    ghost use Rattle.machine_play.specs.Seen.{seen_of, room_of};
+
+    ghost seen = { seen_of };
+
+    ghost parts = { λ p. parts_with p.hand };
+
+    ghost room = { room_of };
+
+    fn reg(&mut self, cell: usize) -> Result<u32, RegBad> {
+        Ok(self.cells[cell])
+    }
+
+    fn set_reg(&mut self, cell: usize, v: u32) {
+        self.cells[cell] = v;
+    }
+
+    fn load(&mut self, addr: u32, len: u8) -> Look {
+        let Some(hand) = self.hand else {
+            return Look::Miss(Why::Absent);
+        };
+        if !hand.has(addr, len) {
+            return Look::Miss(Why::Absent);
+        }
+        let value = hand.number(addr, len);
+        let load = Entry {
+            got: value,
+            put: 0,
+            core: 0,
+            k: self.ops.len() as u32,
+            addr,
+            kind: OpKind::Load,
+            len,
+        };
+        record(&mut self.ops, load);
+        Look::Hit { value, way: 0 }
+    }
+
+    fn store(&mut self, addr: u32, len: u8, value: u64) -> Result<(), Full> {
+        let store = Entry {
+            got: 0,
+            put: value,
+            core: 0,
+            k: self.ops.len() as u32,
+            addr,
+            kind: OpKind::Store,
+            len,
+        };
+        record(&mut self.ops, store);
+        Ok(())
+    }
+
+    fn waiting(&self) -> bool {
+        false
+    }
+
+    fn is_text(&self, addr: u32, len: u8) -> bool {
+        self.program.touches_text(addr, len)
+    }
+
+    fn in_ram(&self, addr: u32, len: u8) -> bool {
+        addresses::is_in_ram(self.program.setup.config.ram, addr, len)
+    }
+
+    fn out(&mut self, byte: u8) {
+        if self.out.push(byte).is_err() {
+            unreachable!()
+        }
+    }
+
+    fn flush(&mut self) {}
+}
