@@ -1,9 +1,6 @@
-mod OneCore
-mod PlainStep
-mod RunLemmas
-mod RamLemmas
-mod StepLemmas
-mod OrderLemmas
-mod PlayLemmas
-mod PlayedLemmas
-mod CallLemmas
+pub mod WordLemmas
+pub mod ReadingLemmas
+pub mod CauseLemmas
+pub mod FileLemmas
+pub mod SettledLemmas
+pub mod DecideLemmas

@@ -1,4 +1,7 @@
-pub mod Plain
-pub mod Playing
-pub mod Played
+pub mod Words
+pub mod Files
+pub mod Faults
+pub mod Accepted
+pub mod Reading
+pub mod Ends
 pub mod Call

@@ -1,94 +1,73 @@
-ghost use Rattle.std.specs.Prelude.{◌≡◌, ◌≢◌, ◌≤◌, ◌<◌, ◌^◌, ◌⊎◌, ℕ, List, length, map, string_bytes, Option, Some, IfOk};
+ghost use Rattle.std.specs.Prelude.{◌≡◌, ◌≢◌, ◌≤◌, ◌<◌, ◌^◌, ◌⊎◌, ℕ, List, map, string_bytes, Some, IfOk, IfErr, IfSome};
+ghost use Rattle.edac_code.specs.Code.{check_bits};
 ghost use Rattle.lf_io.specs.Count.{Rose};
 ghost use Rattle.lf_io.specs.Held.{FileMap};
 ghost use Rattle.lf_io.specs.Taken.{Takes, TakesPrefix};
-ghost use Rattle.leon_main.specs.Call.{IsAnswer, IsFileAnswer, IsAnswered, IsCutOff, IsFaultless, Decides, TakesPart, setup_of, status_of, text_of, memory_line};
+ghost use Rattle.lf_model.specs.declared.setup.Event.{Event};
+ghost use Rattle.machine_play.specs.Playable.{IsPlayable};
+ghost use Rattle.leon_main.specs.Accepted.{AreParts};
+ghost use Rattle.leon_main.specs.Call.{IsOutcome, IsAnswered, IsCutOff, IsFaultless, Decides, IsSettled, status_of, text_of};
+ghost use Rattle.leon_main.specs.Faults.{line_of};
+ghost use Rattle.leon_main.specs.Reading.{IsCause};
+ghost use Rattle.leon_main.specs.Words.{FileNames, told};
 
-use crate::answer::Answer;
-use crate::{play, words};
-use elf_image::ImageErr;
-use lf_io::{Files, ReadErr, Sink};
-use lf_model::config::{Config, Shape};
-use lf_model::image::{Image, Range};
-use lf_model::listed::Listed;
+use crate::answer::{Answer, status_of, text_of};
+use crate::fault::Fault;
+use crate::reading;
+use crate::words::{Command, Names, command_of};
+use lf_io::{Files, Sink};
 use lf_model::setup::Setup;
-use std::alloc::{AllocError, Global};
+use std::alloc::Global;
 
-/// The longest image file, in bytes.
-const IMAGE_LIMIT: u64 = 67_108_864;
-
-/// The bytes of RAM where no configuration is read.
-const RAM: u32 = 1_048_576;
-
-/// The setup of an image where no configuration is read.
-fn setup_of(alloc: Global, image: Image) -> Setup
-    ensures { result ≡ setup_of image }
+/// The setup that the files of a run spell.
+fn setup_of<F: Files>(alloc: Global, files: &mut F, names: Names) -> Result<Setup, Fault>
+    ensures parts { IfOk result (λ setup. IfSome (F.held files.old) (λ map. (events : List Event) × AreParts (told names.entry) map setup events)) }
+    ensures playable { IfOk result IsPlayable }
+    ensures cause { IfErr result (IsCause (told names.entry) (F.held files.old) (F.faults files.old) (F.faults files.new)) }
 {
-    let caches = Shape { ways: 1, sets: 64 };
-    Setup {
+    let config = reading::configuration(alloc, files, names.configuration)?;
+    let image = reading::image(alloc, files, names.image, &config)?;
+    let flips = reading::script(alloc, files, names.script, &config)?;
+    let _events = reading::schedule(alloc, files, names.schedule, &config)?;
+    Ok(Setup {
         image,
-        config: Config {
-            cores: 1,
-            ram: RAM,
-            steps: 100_000,
-            window: 64,
-            buffer: 4,
-            fetch_cache: caches,
-            load_cache: caches,
-            scrub: Range {
-                first: 0x4000_0000,
-                length: 32,
-            },
-            scrub_turns: 0,
-            watch: Listed::new(alloc),
-        },
-        flips: Listed::new(alloc),
-    }
+        config,
+        flips,
+    })
 }
 
-/// The answer to the words of a call.
-fn decide<F: Files>(alloc: Global, words: &[String], files: &mut F) -> Result<Answer, AllocError>
-    ensures answer { IfOk result (IsAnswer (map string_bytes words.now) (F.held files.old) (F.faults files.old) (F.faults files.new)) }
-    ensures kept { F.held files.new ≡ F.held files.old }
-    ensures never_falls { (name : List ℕ) → F.faults files.old name ≤ F.faults files.new name }
+/// The check bits of a word.
+fn check_bits(word: u32) -> u8
+    ensures { result ≡ check_bits word }
 {
-    let Some(name) = words::image_name(words) else {
-        return Ok(Answer::Usage);
-    };
-    match lf_io::read_whole(alloc, files, name, IMAGE_LIMIT) {
-        Ok(bytes) => play_file(alloc, &bytes),
-        Err(ReadErr::Fault) => Ok(Answer::Unread),
-        Err(ReadErr::TooLong(_)) => Ok(Answer::TooLong),
-        Err(ReadErr::Memory) => Err(AllocError),
-    }
+    (edac_code::encode39(word) >> 32) as u8
 }
 
-/// The answer to the bytes of an image file.
-fn play_file(alloc: Global, bytes: &[u8]) -> Result<Answer, AllocError>
-    requires { length bytes.now < 2 ^ 32 }
-    ensures { IfOk result (IsFileAnswer bytes.now) }
+/// What a call comes to.
+fn outcome_of<F: Files>(alloc: Global, words: &[String], files: &mut F) -> Result<Answer, Fault>
+    ensures { IsOutcome (map string_bytes words.now) (F.held files.old) (F.faults files.old) (F.faults files.new) result }
 {
-    match elf_image::read_image(alloc, bytes, RAM) {
-        Ok(image) => {
-            let setup = setup_of(alloc, image);
-            let trace = play::play(alloc, &setup)?;
-            Ok(Answer::Played(trace))
+    match command_of(words) {
+        Some(Command::Play(names)) => {
+            let setup = setup_of(alloc, files, names)?;
+            let trace = machine_play::play(alloc, &setup)?;
+            Ok(Answer::Report(trace))
         }
-        Err(ImageErr::Refused { number, offset }) => Ok(Answer::Refused { number, offset }),
-        Err(ImageErr::Memory) => Err(AllocError),
+        Some(Command::Codes(word)) => Ok(Answer::CheckBits(check_bits(word))),
+        None => Err(Fault::Usage),
     }
 }
 
-/// Writes the text of an answer, and gives the status.
-fn tell<K: Sink>(alloc: Global, answer: &Answer, out: &mut K) -> u8
-    ensures told { result ≢ 7 → result ≢ 8 → (result ≡ status_of answer.now) × Takes (K.taken out.old) (K.taken out.new) (text_of answer.now) }
-    ensures memory { result ≡ 7 → Takes (K.taken out.old) (K.taken out.new) memory_line }
+/// Writes the text of an outcome, and gives the status.
+fn tell<K: Sink>(alloc: Global, outcome: &Result<Answer, Fault>, out: &mut K) -> u8
+    ensures told { result ≢ 7 → result ≢ 8 → (result ≡ status_of outcome.now) × Takes (K.taken out.old) (K.taken out.new) (text_of outcome.now) }
+    ensures memory { result ≡ 7 → Takes (K.taken out.old) (K.taken out.new) (line_of Fault.Memory) }
     ensures cut { result ≡ 8 → Rose (K.faults out.old) (K.faults out.new) }
-    ensures part { result ≡ 8 → TakesPart (K.taken out.old) (K.taken out.new) (text_of answer.now) }
+    ensures part { result ≡ 8 → TakesPrefix (K.taken out.old) (K.taken out.new) (text_of outcome.now) ⊎ TakesPrefix (K.taken out.old) (K.taken out.new) (line_of Fault.Memory) }
 {
-    match answer.text(alloc) {
+    match text_of(alloc, outcome) {
         Ok(text) => match lf_io::put_all(out, &text) {
-            Ok(()) => answer.status(),
+            Ok(()) => status_of(outcome),
             Err(_) => 8,
         },
         Err(_) => tell_memory(out),
@@ -96,10 +75,11 @@ fn tell<K: Sink>(alloc: Global, answer: &Answer, out: &mut K) -> u8
 }
 
 /// Writes that there was no memory.
+#[tactic(auto, unfolding(crate::specs::Faults::line_of))]
 pub fn tell_memory<K: Sink>(out: &mut K) -> u8
-    ensures memory { result ≡ 7 → Takes (K.taken out.old) (K.taken out.new) memory_line }
+    ensures memory { result ≡ 7 → Takes (K.taken out.old) (K.taken out.new) (line_of Fault.Memory) }
     ensures cut { result ≡ 8 → Rose (K.faults out.old) (K.faults out.new) }
-    ensures part { result ≡ 8 → TakesPrefix (K.taken out.old) (K.taken out.new) memory_line }
+    ensures part { result ≡ 8 → TakesPrefix (K.taken out.old) (K.taken out.new) (line_of Fault.Memory) }
     ensures only { (result ≡ 7) ⊎ (result ≡ 8) }
 {
     match lf_io::put_all(out, b"error 7 memory\n") {
@@ -108,9 +88,11 @@ pub fn tell_memory<K: Sink>(out: &mut K) -> u8
     }
 }
 
-/// Does what the words of a call say, and answers the exit status: `play IMAGE` runs an image and writes its report.
+/// Does what the words of a call say, and answers the exit status.
 ///
-/// A line that begins with `error` tells why there is no report. Nothing is written after the sink failed.
+/// `play IMAGE CONFIG SCRIPT SCHEDULE` runs an image and writes its report; `codes WORD` writes the check bits of a word of
+/// 8 hexadecimal digits. A line that begins with `error` tells why there is no result. Nothing is written after the sink
+/// failed.
 pub fn plain_call<F: Files, K: Sink>(
     alloc: Global,
     words: &[String],
@@ -122,17 +104,18 @@ pub fn plain_call<F: Files, K: Sink>(
     ensures answered { result ≢ 7 → result ≢ 8 → IsAnswered (map string_bytes words.now) (F.held files.old) (F.faults files.old) (F.faults files.new) (K.taken out.old) (K.taken out.new) result }
 
     // 7 is want of memory, and its line was taken.
-    ensures memory { result ≡ 7 → Takes (K.taken out.old) (K.taken out.new) memory_line }
+    ensures memory { result ≡ 7 → Takes (K.taken out.old) (K.taken out.new) (line_of Fault.Memory) }
 
     // 8 is a fault of the sink, which took a part of the text and nothing more.
     ensures fault { result ≡ 8 → Rose (K.faults out.old) (K.faults out.new) }
     ensures cut_off { result ≡ 8 → IsCutOff (map string_bytes words.now) (F.held files.old) (F.faults files.old) (F.faults files.new) (K.taken out.old) (K.taken out.new) }
 
-    // Where the files tell what they hold and none of their faults was counted, words and files decide the status.
-    ensures decides { (held : FileMap) → F.held files.old ≡ Some held → IsFaultless (map string_bytes words.now) (F.faults files.old) (F.faults files.new) → Decides (map string_bytes words.now) held result }
+    // Where the files tell what they hold and none of their faults was counted, words and files decide the answer: each
+    // case of them has its own, and they are in just one case.
+    ensures decides { (held : FileMap) → F.held files.old ≡ Some held → IsFaultless (map string_bytes words.now) (F.faults files.old) (F.faults files.new)
+        → Decides (map string_bytes words.now) held (K.taken out.old) (K.taken out.new) result }
+    ensures settled { (names : FileNames) (held : FileMap) → IsSettled names held }
 {
-    match decide(alloc, words, files) {
-        Ok(answer) => tell(alloc, &answer, out),
-        Err(_) => tell_memory(out),
-    }
+    let outcome = outcome_of(alloc, words, files);
+    tell(alloc, &outcome, out)
 }

@@ -1,12 +1,11 @@
-//! The simulator's program: `play IMAGE` runs an image on one core and writes its report.
+//! The simulator's program: it runs an image on one core and writes its report, or tells the check bits of a word.
 #![tactic(auto)]
 
 mod answer;
 mod call;
-mod plain;
-mod play;
-mod ram;
-mod results;
+mod fault;
+mod reading;
+mod run_file;
 #[cfg(test)]
 mod tests;
 mod words;

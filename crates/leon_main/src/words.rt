@@ -1,12 +1,37 @@
-ghost use Rattle.std.specs.Prelude.{◌≡◌, map, string_bytes};
-ghost use Rattle.std.specs.Option.{option_copied};
-ghost use Rattle.leon_main.specs.Call.{is_play, is_dashed, image_name};
+ghost use Rattle.std.specs.Prelude.{◌≡◌, map, option_map, string_bytes, codes, if◌then◌else◌};
+ghost use Rattle.run_texts.specs.Text.{numeral, hexadecimal};
+ghost use Rattle.leon_main.specs.Words.{is_text, is_dashed, undashed, request_of, told, asked, Play, Codes};
+
+/// What the words of a call ask for.
+#[derive(Clone, Copy)]
+pub enum Command<'a> {
+    /// A run of the image, for a configuration, a script of flips and a schedule.
+    Play(Names<'a>),
+    /// The check bits of a word.
+    Codes(u32),
+}
+
+/// The names of the files of a run.
+#[derive(Clone, Copy)]
+pub struct Names<'a> {
+    pub image: &'a str,
+    pub configuration: &'a str,
+    pub script: &'a str,
+    pub schedule: &'a str,
+}
 
 /// The word is `play`.
 fn is_play(word: &str) -> bool
-    ensures { result ≡ is_play word.now }
+    ensures { result ≡ is_text (codes "play") word.now }
 {
     word == "play"
+}
+
+/// The word is `codes`.
+fn is_codes(word: &str) -> bool
+    ensures { result ≡ is_text (codes "codes") word.now }
+{
+    word == "codes"
 }
 
 /// The word begins with a dash.
@@ -16,16 +41,75 @@ fn is_dashed(word: &str) -> bool
     word.starts_with("-")
 }
 
-/// The name of the image, where the words are the program's name, `play` and one word that is not dashed.
-pub fn image_name(words: &[String]) -> Option<&str>
-    ensures { option_copied result ≡ image_name (map string_bytes words.now) }
+/// The names, where none of them begins with a dash.
+fn undashed(names: Names<'_>) -> Option<Names<'_>>
+    ensures { option_map told result ≡ undashed (told names.entry) }
 {
-    let [_program, command, name] = words else {
-        return None;
-    };
-    if is_play(command.as_str()) && !is_dashed(name.as_str()) {
-        Some(name.as_str())
+    if is_dashed(names.image)
+        || is_dashed(names.configuration)
+        || is_dashed(names.script)
+        || is_dashed(names.schedule)
+    {
+        None
+    } else {
+        Some(names)
+    }
+}
+
+/// The names of the files of a run, `None` where these words are not taken.
+fn play_of<'a>(command: &str, names: Names<'a>) -> Option<Command<'a>>
+    ensures { option_map asked result ≡ (if is_text (codes "play") command.now then option_map Play (undashed (told names.entry)) else None) }
+{
+    if is_play(command) {
+        Some(Command::Play(undashed(names)?))
     } else {
         None
     }
+}
+
+/// The word whose check bits are asked for, `None` where these words are not taken.
+fn codes_of(command: &str, word: &str) -> Option<Command<'static>>
+    ensures { option_map asked result ≡ (if is_text (codes "codes") command.now then option_map Codes (hexadecimal word.now) else None) }
+{
+    if is_codes(command) {
+        Some(Command::Codes(code_word(word)?))
+    } else {
+        None
+    }
+}
+
+/// What the words of a call ask for, `None` where they are not taken.
+#[tactic(auto, unfolding(crate::specs::Words::request_of))]
+pub fn command_of(words: &[String]) -> Option<Command<'_>>
+    ensures { option_map asked result ≡ request_of (map string_bytes words.now) }
+{
+    match words {
+        [_, command, image, configuration, script, schedule] => {
+            let names = Names {
+                image: image.as_str(),
+                configuration: configuration.as_str(),
+                script: script.as_str(),
+                schedule: schedule.as_str(),
+            };
+            play_of(command.as_str(), names)
+        }
+        [_, command, word] => codes_of(command.as_str(), word.as_str()),
+        _ => None,
+    }
+}
+
+/// The number that 8 hexadecimal digits of either case write, `None` where the word is not of this form.
+#[tactic(auto, unfolding(run_texts::specs::Text::hexadecimal))]
+fn code_word(word: &str) -> Option<u32>
+    ensures { result ≡ hexadecimal word.now }
+{
+    if word.len() != 8 {
+        return None;
+    }
+    let mut value = 0;
+    for digit in word.as_bytes() {
+        let digit = char::from(*digit).to_digit(16)?;
+        value = value * 16 + digit;
+    }
+    Some(value)
 }

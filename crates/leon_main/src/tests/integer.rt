@@ -1,9 +1,9 @@
-use super::{Row, ZERO, is_told};
+use super::runs::{QUIET, Row, Run, ZERO, is_told};
 use std::alloc::{AllocError, Global};
 use std::test::Fail;
 
 /// Programs of the integer table, each with what its report tells.
-const PROGRAMS: [Row; 45] = [
+static PROGRAMS: [Row; 45] = [
     // BA with annul, over its delay slot.
     Row {
         words: &[0x3080_0002, 0x8400_2001, 0x91d0_2000],
@@ -421,7 +421,7 @@ struct Branches {
     told: Row,
 }
 
-const BRANCHES: [Branches; 12] = [
+static BRANCHES: [Branches; 12] = [
     Branches {
         setup: [0x80a0_0000, 0x0100_0000],
         annuls: false,
@@ -571,15 +571,27 @@ impl Branches {
     }
 }
 
+/// The program runs to the report of a row.
+fn runs_to(alloc: Global, program: &[u32], row: &Row) -> Result<bool, AllocError> {
+    is_told(alloc, program, &Run { row: *row, ..QUIET })
+}
+
 #[test]
-fn the_integer_table_runs(rt: HostRuntime) -> Result<(), Fail> {
-    let alloc = rt.alloc();
+fn programs_of_the_integer_table(rt: HostRuntime) -> Result<(), Fail> {
     for (i, row) in PROGRAMS.iter().enumerate() {
-        assert!(rt; is_told(alloc, row.words, row)?, "program {i}");
+        assert!(rt; runs_to(rt.alloc(), row.words, row)?, "program {i}");
     }
+    Ok(())
+}
+
+#[test]
+fn branches_on_each_condition(rt: HostRuntime) -> Result<(), Fail> {
     for (i, branches) in BRANCHES.iter().enumerate() {
-        let words = branches.words(alloc)?;
-        assert!(rt; is_told(alloc, &words, &branches.told)?, "branches {i}");
+        let words = branches.words(rt.alloc())?;
+        assert!(rt;
+            runs_to(rt.alloc(), &words, &branches.told)?,
+            "branches {i}"
+        );
     }
     Ok(())
 }

@@ -1,0 +1,82 @@
+-- The files of a run, as they are told: the setup that they spell, or the first of them that is refused. They are tried in
+-- the order configuration, image, script, schedule.
+use Rattle.std.specs.Prelude.{ℕ, ◌≡◌, ◌<◌, ◌≤◌, ⊤, List, [], length, unwrap_or, Ok, Err}
+use Rattle.lf_io.specs.Held.{FileMap}
+use Rattle.lf_model.specs.declared.config.Config.{Config}
+use Rattle.lf_model.specs.declared.flip.Flip.{Flip}
+use Rattle.lf_model.specs.declared.image.Image as images
+use Rattle.lf_model.specs.declared.setup.Event.{Event}
+use Rattle.lf_model.specs.declared.setup.Setup.{Setup}
+use Rattle.elf_image.specs.Answer as elf
+use Rattle.run_texts.specs.Configuration.{config_answer}
+use Rattle.run_texts.specs.Schedule.{IsSchedule, IsFirstScheduleFault}
+use Rattle.run_texts.specs.Script.{IsScript, IsFirstFault}
+use Rattle.run_texts.specs.declared.config_error.ConfigErr.TheVariants.{Text, Key, Kind, Range}
+use Rattle.leon_main.specs.Files.{limit_of, name_in}
+use Rattle.leon_main.specs.Words.{FileNames}
+use Rattle.leon_main.specs.declared.fault.Fault.{Fault}
+use Rattle.leon_main.specs.declared.fault.Fault.TheVariants.{TooLong, NotToml, UnknownKey, WrongKind, OutOfRange, BadImage, BadScript, BadSchedule}
+use Rattle.leon_main.specs.declared.run_file.RunFile.{RunFile}
+use Rattle.leon_main.specs.declared.run_file.RunFile.TheVariants.{Configuration, Image, Script, Schedule}
+
+-- the bytes of a file; a missing one reads as an empty one
+abbrev pub bytes_of : FileMap → List ℕ → List ℕ
+bytes_of files name = unwrap_or (files name) []
+
+-- the bytes are within the limit of this file
+abbrev pub IsWithin : RunFile → List ℕ → Type 0
+IsWithin file bytes = length bytes ≤ limit_of file
+
+-- the bytes of each file are accepted, and spell this
+abbrev pub SpellsConfiguration : List ℕ → Config → Type 0
+SpellsConfiguration bytes config = IsWithin Configuration bytes × (config_answer bytes ≡ Ok config)
+
+abbrev pub SpellsImage : Config → List ℕ → images.Image → Type 0
+SpellsImage config bytes image = IsWithin Image bytes × elf.IsFileOf config.ram bytes image
+
+abbrev pub SpellsScript : Config → List ℕ → List Flip → Type 0
+SpellsScript config bytes flips = IsWithin Script bytes × IsScript config bytes flips
+
+abbrev pub SpellsSchedule : Config → List ℕ → List Event → Type 0
+SpellsSchedule config bytes events = IsWithin Schedule bytes × IsSchedule config bytes events
+
+-- all files are accepted, and spell this setup and these events
+pub record AreParts (names : FileNames) (files : FileMap) (setup : Setup) (events : List Event) : Type 0 where
+  pub configuration : SpellsConfiguration (bytes_of files names.configuration) setup.config
+  pub image : SpellsImage setup.config (bytes_of files names.image) setup.image
+  pub script : SpellsScript setup.config (bytes_of files names.script) setup.flips
+  pub schedule : SpellsSchedule setup.config (bytes_of files names.schedule) events
+
+-- the files before one are accepted, and spell these parts of a setup
+abbrev pub AreAcceptedBefore : RunFile → FileNames → FileMap → Setup → Type 0
+AreAcceptedBefore Configuration names files setup = ⊤
+AreAcceptedBefore Image names files setup = SpellsConfiguration (bytes_of files names.configuration) setup.config
+AreAcceptedBefore Script names files setup = SpellsConfiguration (bytes_of files names.configuration) setup.config
+    × SpellsImage setup.config (bytes_of files names.image) setup.image
+AreAcceptedBefore Schedule names files setup = SpellsConfiguration (bytes_of files names.configuration) setup.config
+    × SpellsImage setup.config (bytes_of files names.image) setup.image
+    × SpellsScript setup.config (bytes_of files names.script) setup.flips
+
+-- the bytes of a file are not what its reader takes, and this is what it tells
+abbrev pub IsFaulty : RunFile → Config → List ℕ → Fault → Type 0
+IsFaulty Configuration config bytes NotToml = config_answer bytes ≡ Err Text
+IsFaulty Configuration config bytes UnknownKey = config_answer bytes ≡ Err Key
+IsFaulty Configuration config bytes (WrongKind key) = config_answer bytes ≡ Err (Kind key)
+IsFaulty Configuration config bytes (OutOfRange key) = config_answer bytes ≡ Err (Range key)
+IsFaulty Image config bytes (BadImage number offset) = elf.IsRefused config.ram bytes number offset
+IsFaulty Script config bytes (BadScript line why) = IsFirstFault config bytes line why
+IsFaulty Schedule config bytes (BadSchedule line why) = IsFirstScheduleFault config bytes line why
+IsFaulty _ config bytes _ = ⊥
+
+-- the bytes of a file are refused: they are too many, or else faulty
+abbrev pub IsRefused : RunFile → Config → List ℕ → Fault → Type 0
+IsRefused file config bytes (TooLong other) = (other ≡ file) × (limit_of file < length bytes)
+IsRefused file config bytes fault = IsWithin file bytes × IsFaulty file config bytes fault
+
+-- the first refusal: a file is refused with this fault, and those before it are accepted; what these do not spell of the
+-- setup has no meaning
+pub record IsFirstRefusal (names : FileNames) (files : FileMap) (fault : Fault) : Type 0 where
+  pub file : RunFile
+  pub setup : Setup
+  pub accepted : AreAcceptedBefore file names files setup
+  pub refused : IsRefused file setup.config (bytes_of files (name_in names file)) fault

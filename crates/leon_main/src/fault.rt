@@ -1,0 +1,186 @@
+ghost use Rattle.std.specs.Prelude.{◌≡◌, ◌++◌, codes, IfOk};
+ghost use Rattle.lf_model.specs.Texts.{number, space};
+ghost use Rattle.run_texts.specs.Faults.{word_of};
+ghost use Rattle.leon_main.specs.Faults.{script_fault, schedule_fault};
+
+use crate::run_file::RunFile;
+use elf_image::{ImageErr, refusal_name};
+use report_text::fields::{LINE_FEED, SPACE, put, put_number};
+use run_texts::{ConfigErr, Key, TextErr, TextWhy};
+use std::alloc::{AllocError, Global};
+
+/// Why a call has no result.
+#[derive(Clone, Copy, Debug, PartialEq, Eq)]
+pub enum Fault {
+    /// The words of the call are not taken.
+    Usage,
+    /// A file could not be read.
+    Unread(RunFile),
+    /// A file has more bytes than its limit.
+    TooLong(RunFile),
+    /// The configuration is no TOML document.
+    NotToml,
+    /// The configuration has a key that no configuration has.
+    UnknownKey,
+    /// The configuration has a value of another kind at this key.
+    WrongKind(Key),
+    /// The configuration has a value out of range at this key.
+    OutOfRange(Key),
+    /// The image is refused.
+    BadImage {
+        /// The number of the refusal, from 1 to 14.
+        number: u8,
+        /// The place in the file that it tells, in bytes.
+        offset: u32,
+    },
+    /// A line of the script is faulty, and none before it is.
+    BadScript {
+        /// The number of the line, from 1 on.
+        line: u64,
+        why: TextWhy,
+    },
+    /// A line of the schedule is faulty, and none before it is.
+    BadSchedule {
+        /// The number of the line, from 1 on.
+        line: u64,
+        why: TextWhy,
+    },
+    /// There is no memory left.
+    Memory,
+}
+
+impl From<AllocError> for Fault {
+    ghost use Rattle.std.specs.Prelude.{◌≡◌};
+    ghost use Rattle.leon_main.specs.declared.fault.Fault.TheVariants.{Memory};
+
+    ghost from_gives = { λ _ fault. fault ≡ Memory };
+
+    fn from(_error: AllocError) -> Fault {
+        Fault::Memory
+    }
+}
+
+impl From<ConfigErr> for Fault {
+    ghost use Rattle.std.specs.Prelude.{◌≡◌};
+    ghost use Rattle.leon_main.specs.Faults.{configuration_fault};
+
+    ghost from_gives = { λ error fault. fault ≡ configuration_fault error };
+
+    fn from(error: ConfigErr) -> Fault {
+        match error {
+            ConfigErr::Text => Fault::NotToml,
+            ConfigErr::Key => Fault::UnknownKey,
+            ConfigErr::Kind(key) => Fault::WrongKind(key),
+            ConfigErr::Range(key) => Fault::OutOfRange(key),
+            ConfigErr::Memory => Fault::Memory,
+        }
+    }
+}
+
+impl From<ImageErr> for Fault {
+    ghost use Rattle.std.specs.Prelude.{◌≡◌};
+    ghost use Rattle.leon_main.specs.Faults.{image_fault};
+
+    ghost from_gives = { λ error fault. fault ≡ image_fault error };
+
+    fn from(error: ImageErr) -> Fault {
+        match error {
+            ImageErr::Refused { number, offset } => Fault::BadImage { number, offset },
+            ImageErr::Memory => Fault::Memory,
+        }
+    }
+}
+
+/// A line that ends with the number of a line of a text and its fault.
+fn text_line(alloc: Global, head: &[u8], line: u64, why: TextWhy) -> Result<Vec<u8>, AllocError>
+    ensures { IfOk result (λ text. text.items ≡ head.now ++ number space line ++ word_of why ++ codes "\n") }
+{
+    let mut text = Vec::from_slice(alloc, head)?;
+    put_number(&mut text, SPACE, line)?;
+    put(&mut text, why.word().as_bytes())?;
+    put(&mut text, b"\n")?;
+    Ok(text)
+}
+
+/// A line that ends with a word.
+fn word_line(alloc: Global, head: &[u8], word: &[u8]) -> Result<Vec<u8>, AllocError>
+    ensures { IfOk result (λ text. text.items ≡ head.now ++ word.now ++ codes "\n") }
+{
+    let mut text = Vec::from_slice(alloc, head)?;
+    put(&mut text, word)?;
+    put(&mut text, b"\n")?;
+    Ok(text)
+}
+
+/// A line that ends with a word and a number.
+fn number_line(alloc: Global, head: &[u8], word: &[u8], n: u64) -> Result<Vec<u8>, AllocError>
+    ensures { IfOk result (λ text. text.items ≡ head.now ++ word.now ++ codes " " ++ number 10 n) }
+{
+    let mut text = Vec::from_slice(alloc, head)?;
+    put(&mut text, word)?;
+    put(&mut text, b" ")?;
+    put_number(&mut text, LINE_FEED, n)?;
+    Ok(text)
+}
+
+impl Fault {
+    ghost use Rattle.leon_main.specs.Faults.{status_of, line_of};
+
+    /// The fault that an error of a script is.
+    pub fn of_script(error: TextErr) -> Fault
+        ensures { result ≡ script_fault error }
+    {
+        match error {
+            TextErr::At { line, why } => Fault::BadScript { line, why },
+            TextErr::Memory => Fault::Memory,
+        }
+    }
+
+    /// The fault that an error of a schedule is.
+    pub fn of_schedule(error: TextErr) -> Fault
+        ensures { result ≡ schedule_fault error }
+    {
+        match error {
+            TextErr::At { line, why } => Fault::BadSchedule { line, why },
+            TextErr::Memory => Fault::Memory,
+        }
+    }
+
+    /// The exit status.
+    pub fn status(self) -> u8
+        ensures { result ≡ status_of self }
+    {
+        match self {
+            Fault::Usage => 2,
+            Fault::Unread(_) => 3,
+            Fault::BadImage { .. } => 4,
+            Fault::BadScript { .. } | Fault::BadSchedule { .. } => 5,
+            Fault::NotToml | Fault::UnknownKey | Fault::WrongKind(_) | Fault::OutOfRange(_) => 6,
+            Fault::Memory => 7,
+            Fault::TooLong(_) => 12,
+        }
+    }
+
+    /// The line that tells the fault.
+    #[tactic(auto, unfolding(crate::specs::Faults::line_of))]
+    pub fn line(self, alloc: Global) -> Result<Vec<u8>, AllocError>
+        ensures { IfOk result (λ text. text.items ≡ line_of self) }
+    {
+        match self {
+            Fault::Usage => Vec::from_slice(alloc, b"error 2 usage\n"),
+            Fault::Unread(file) => word_line(alloc, b"error 3 ", file.word()),
+            Fault::TooLong(file) => number_line(alloc, b"error 12 ", file.word(), file.limit()),
+            Fault::NotToml => Vec::from_slice(alloc, b"error 6 text -\n"),
+            Fault::UnknownKey => Vec::from_slice(alloc, b"error 6 key -\n"),
+            Fault::WrongKind(key) => word_line(alloc, b"error 6 kind ", key.name().as_bytes()),
+            Fault::OutOfRange(key) => word_line(alloc, b"error 6 range ", key.name().as_bytes()),
+            Fault::BadImage { number, offset } => {
+                let name = refusal_name(number).as_bytes();
+                number_line(alloc, b"error 4 ", name, u64::from(offset))
+            }
+            Fault::BadScript { line, why } => text_line(alloc, b"error 5 script ", line, why),
+            Fault::BadSchedule { line, why } => text_line(alloc, b"error 5 schedule ", line, why),
+            Fault::Memory => Vec::from_slice(alloc, b"error 7 memory\n"),
+        }
+    }
+}
