@@ -56,7 +56,7 @@ by_report words files old new trace status cause own = record {
   usage = λ none. play_not_none (request_of words) cause.names cause.asked none;
   check_bits = λ word codes. play_not_codes (request_of words) cause.names word cause.asked codes;
   refused = λ names fault asked refusal. absurd (
-      (settled cause.names files).not_both cause.setup cause.spelled.0 fault cause.spelled.1 (renamed_refusal words files cause.names names fault cause.asked asked refusal));
+      (settled cause.names files).not_both (cause.setup, cause.spelled.0, cause.spelled.1) (fault, renamed_refusal words files cause.names names fault cause.asked asked refusal));
   played = λ names setup events asked parts. played_as setup
       ((settled cause.names files).one_setup cause.setup setup cause.spelled.0 events cause.spelled.1 (renamed_parts words files cause.names names setup events cause.asked asked parts));
 }
@@ -94,7 +94,7 @@ by_refusal words files old new names fault status asked refusal own = record {
   refused = λ others other play more. subst (λ (f : Fault). Tells status old new (faults.status_of f) (faults.line_of f))
       ((settled names files).one_fault fault other refusal (renamed_refusal words files names others other asked play more)) own;
   played = λ others setup events play parts. absurd (
-      (settled names files).not_both setup events fault (renamed_parts words files names others setup events asked play parts) refusal);
+      (settled names files).not_both (setup, events, renamed_parts words files names others setup events asked play parts) (fault, refusal));
 }
 
 by_hindrance : (words : List (List ℕ)) (files : FileMap) (old new : Option (List ℕ)) (status : ℕ) → IsHindered status → Decides words files old new status

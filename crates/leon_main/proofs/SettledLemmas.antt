@@ -11,7 +11,7 @@ use Rattle.run_texts.specs.Text.{rows}
 use Rattle.leon_main.proofs.CauseLemmas.{blank}
 use Rattle.leon_main.proofs.FileLemmas.{IsAccepted, accepted_not_refused, one_refusal, accepted_or_refused}
 use Rattle.leon_main.specs.Accepted.{bytes_of, SpellsConfiguration, SpellsImage, SpellsScript, AreParts, AreAcceptedBefore, IsRefused, IsFirstRefusal}
-use Rattle.leon_main.specs.Call.{IsSettled}
+use Rattle.leon_main.specs.Call.{HasParts, HasRefusal, IsSettled}
 use Rattle.leon_main.specs.Files.{name_in}
 use Rattle.leon_main.specs.Words.{FileNames}
 use Rattle.leon_main.specs.declared.fault.Fault.{Fault}
@@ -129,14 +129,11 @@ one_first names files Schedule Schedule s t fault other before refused earlier m
 
 -- ---- one of the two
 
-abbrev HasRefusal : FileNames → FileMap → Type 0
-HasRefusal names files = (fault : Fault) × IsFirstRefusal names files fault
-
 refusal_at : (file : RunFile) (names : FileNames) (files : FileMap) (setup : Setup) → AreAcceptedBefore file names files setup
     → ((fault : Fault) × IsRefused file setup.config (bytes_of files (name_in names file)) fault) → HasRefusal names files
 refusal_at file names files setup accepted refused = (refused.0, record { file = file; setup = setup; accepted = accepted; refused = refused.1 })
 
-either : (names : FileNames) (files : FileMap) → ((setup : Setup) × (events : List Event) × AreParts names files setup events) ⊎ HasRefusal names files
+either : (names : FileNames) (files : FileMap) → HasParts names files ⊎ HasRefusal names files
 either names files =
     elim (accepted_or_refused Configuration blank.config (bytes_of files names.configuration)) [
       | inr refused ↦ inr (refusal_at Configuration names files blank tt refused)
@@ -164,7 +161,7 @@ either names files =
 pub settled : (names : FileNames) (files : FileMap) → IsSettled names files
 settled names files = record {
   either = either names files;
-  not_both = not_both names files;
+  not_both = λ parts refusal. not_both names files parts.0 parts.1 refusal.0 parts.2 refusal.1;
   one_setup = one_setup names files;
   one_fault = λ fault other first second.
       one_first names files first.file second.file first.setup second.setup fault other first.accepted first.refused second.accepted second.refused;

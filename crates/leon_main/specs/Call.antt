@@ -1,5 +1,5 @@
 -- What the program answers to a call: why each answer comes, its exit status, and its text.
-use Rattle.std.specs.Prelude.{ℕ, ◌≡◌, ◌⊎◌, List, Option, Some, None, IfSome, Result, Ok, Err}
+use Rattle.std.specs.Prelude.{ℕ, ◌≡◌, ◌⊎◌, List, Option, None, IfSome, Result, Ok, Err}
 use Rattle.edac_code.specs.Code.{check_bits}
 use Rattle.lf_io.specs.Count.{Rose}
 use Rattle.lf_io.specs.Held.{FileMap}
@@ -16,7 +16,7 @@ use Rattle.leon_main.specs.Ends.{status_of_cores}
 use Rattle.leon_main.specs.Faults as faults
 use Rattle.leon_main.specs.Files.{name_in}
 use Rattle.leon_main.specs.Reading.{IsCause}
-use Rattle.leon_main.specs.Words.{FileNames, request_of, Play, Codes}
+use Rattle.leon_main.specs.Words.{FileNames, request_of, AsksToPlay, AsksForCodes}
 use Rattle.leon_main.specs.declared.answer.Answer.{Answer}
 use Rattle.leon_main.specs.declared.answer.Answer.TheVariants.{Report, CheckBits}
 use Rattle.leon_main.specs.declared.fault.Fault.{Fault}
@@ -30,22 +30,24 @@ use Rattle.leon_main.specs.declared.run_file.RunFile.{RunFile}
 pub record IsReportOf (words : List (List ℕ)) (held : Option FileMap) (trace : Trace) : Type 0 where
   pub names : FileNames
   pub setup : Setup
-  pub asked : request_of words ≡ Some (Play names)
+  pub asked : AsksToPlay words names
   pub spelled : IfSome held (λ files. (events : List Event) × AreParts names files setup events)
   pub playable : IsPlayable setup
   pub played : IsPlayed setup trace
 
 abbrev pub IsAnswer : List (List ℕ) → Option FileMap → Answer → Type 0
 IsAnswer words held (Report trace) = IsReportOf words held trace
-IsAnswer words held (CheckBits bits) = (word : ℕ) × (request_of words ≡ Some (Codes word)) × (bits ≡ check_bits word)
+IsAnswer words held (CheckBits bits) = (word : ℕ) × AsksForCodes words word × (bits ≡ check_bits word)
 
 -- a fault: the words are not taken, or they ask for a run, of whose files it is told
 abbrev pub IsFault : List (List ℕ) → Option FileMap → (List ℕ → ℕ) → (List ℕ → ℕ) → Fault → Type 0
 IsFault words held before after Usage = request_of words ≡ None
-IsFault words held before after fault = (names : FileNames) × (request_of words ≡ Some (Play names)) × IsCause names held before after fault
+IsFault words held before after fault =
+    (names : FileNames) × AsksToPlay words names × IsCause names held before after fault
 
 -- what a call comes to, of the files as they are told and of the counts of their faults before and after
-abbrev pub IsOutcome : List (List ℕ) → Option FileMap → (List ℕ → ℕ) → (List ℕ → ℕ) → Result Answer Fault → Type 0
+abbrev pub IsOutcome :
+    List (List ℕ) → Option FileMap → (List ℕ → ℕ) → (List ℕ → ℕ) → Result Answer Fault → Type 0
 IsOutcome words held before after (Ok answer) = IsAnswer words held answer
 IsOutcome words held before after (Err fault) = IsFault words held before after fault
 
@@ -63,14 +65,16 @@ text_of (Ok (CheckBits bits)) = hex_field line_feed 2 bits
 text_of (Err fault) = faults.line_of fault
 
 -- the call answered with this status, and its text was taken whole
-pub record IsAnswered (words : List (List ℕ)) (held : Option FileMap) (before after : List ℕ → ℕ) (old new : Option (List ℕ)) (status : ℕ) : Type 0 where
+pub record IsAnswered (words : List (List ℕ)) (held : Option FileMap) (before after : List ℕ → ℕ)
+    (old new : Option (List ℕ)) (status : ℕ) : Type 0 where
   pub outcome : Result Answer Fault
   pub cause : IsOutcome words held before after outcome
   pub its_status : status ≡ status_of outcome
   pub taken : Takes old new (text_of outcome)
 
 -- the sink took a part of the text, or of the line where there was no memory
-pub record IsCutOff (words : List (List ℕ)) (held : Option FileMap) (before after : List ℕ → ℕ) (old new : Option (List ℕ)) : Type 0 where
+pub record IsCutOff (words : List (List ℕ)) (held : Option FileMap) (before after : List ℕ → ℕ)
+    (old new : Option (List ℕ)) : Type 0 where
   pub outcome : Result Answer Fault
   pub cause : IsOutcome words held before after outcome
   pub part : TakesPrefix old new (text_of outcome) ⊎ TakesPrefix old new (faults.line_of Memory)
@@ -80,7 +84,8 @@ pub record IsCutOff (words : List (List ℕ)) (held : Option FileMap) (before af
 -- no fault was counted of a file that the words name
 abbrev pub IsFaultless : List (List ℕ) → (List ℕ → ℕ) → (List ℕ → ℕ) → Type 0
 IsFaultless words before after =
-    (names : FileNames) (file : RunFile) → request_of words ≡ Some (Play names) → Rose (before (name_in names file)) (after (name_in names file)) → ⊥
+    (names : FileNames) (file : RunFile) → AsksToPlay words names
+    → Rose (before (name_in names file)) (after (name_in names file)) → ⊥
 
 -- there was no memory, or the sink failed
 abbrev pub IsHindered : ℕ → Type 0
@@ -93,20 +98,30 @@ Tells status old new wanted text = ((status ≡ wanted) × Takes old new text) �
 -- the whole report of a run of this setup, with the status of its ends, unless the call was hindered
 abbrev pub Reports : ℕ → Option (List ℕ) → Option (List ℕ) → Setup → Type 0
 Reports status old new setup =
-    ((trace : Trace) × IsPlayed setup trace × (status ≡ status_of_cores trace.cores) × Takes old new (report trace)) ⊎ IsHindered status
+    ((trace : Trace) × IsPlayed setup trace × (status ≡ status_of_cores trace.cores) × Takes old new (report trace))
+    ⊎ IsHindered status
 
 -- words and told files decide the answer, in these four cases
 pub record Decides (words : List (List ℕ)) (files : FileMap) (old new : Option (List ℕ)) (status : ℕ) : Type 0 where
   pub usage : request_of words ≡ None → Tells status old new 2 (faults.line_of Usage)
-  pub check_bits : (word : ℕ) → request_of words ≡ Some (Codes word) → Tells status old new 0 (hex_field line_feed 2 (check_bits word))
-  pub refused : (names : FileNames) (fault : Fault) → request_of words ≡ Some (Play names) → IsFirstRefusal names files fault
+  pub check_bits : (word : ℕ) → AsksForCodes words word
+      → Tells status old new 0 (hex_field line_feed 2 (check_bits word))
+  pub refused : (names : FileNames) (fault : Fault) → AsksToPlay words names → IsFirstRefusal names files fault
       → Tells status old new (faults.status_of fault) (faults.line_of fault)
-  pub played : (names : FileNames) (setup : Setup) (events : List Event) → request_of words ≡ Some (Play names) → AreParts names files setup events
-      → Reports status old new setup
+  pub played : (names : FileNames) (setup : Setup) (events : List Event) → AsksToPlay words names
+      → AreParts names files setup events → Reports status old new setup
 
--- told files are the parts of one setup, or have one first refusal, and not both
+-- the files spell a setup; or one of them is the first that is refused
+abbrev pub HasParts : FileNames → FileMap → Type 0
+HasParts names files = (setup : Setup) × (events : List Event) × AreParts names files setup events
+
+abbrev pub HasRefusal : FileNames → FileMap → Type 0
+HasRefusal names files = (fault : Fault) × IsFirstRefusal names files fault
+
+-- exactly one of the two, and in one way
 pub record IsSettled (names : FileNames) (files : FileMap) : Type 0 where
-  pub either : ((setup : Setup) × (events : List Event) × AreParts names files setup events) ⊎ ((fault : Fault) × IsFirstRefusal names files fault)
-  pub not_both : (setup : Setup) (events : List Event) (fault : Fault) → AreParts names files setup events → IsFirstRefusal names files fault → ⊥
-  pub one_setup : (setup other : Setup) (events more : List Event) → AreParts names files setup events → AreParts names files other more → setup ≡ other
+  pub either : HasParts names files ⊎ HasRefusal names files
+  pub not_both : HasParts names files → HasRefusal names files → ⊥
+  pub one_setup : (setup other : Setup) (events more : List Event) → AreParts names files setup events
+      → AreParts names files other more → setup ≡ other
   pub one_fault : (fault other : Fault) → IsFirstRefusal names files fault → IsFirstRefusal names files other → fault ≡ other

@@ -1,5 +1,5 @@
 -- The words of a call: the program's name, a command, and what the command is given.
-use Rattle.std.specs.Prelude.{ℕ, Bool, ◌||◌, nat_eq, List, [], ◌∷◌, codes, Option, Some, None, option_map, if◌then◌else◌}
+use Rattle.std.specs.Prelude.{ℕ, ◌≡◌, Bool, ◌||◌, nat_eq, List, [], ◌∷◌, codes, Option, Some, None, option_map, if◌then◌else◌}
 use Rattle.std.specs.List.{starts_with}
 use Rattle.std.specs.Cmp.Lexicographic.{pointwise}
 use Rattle.run_texts.specs.Text.{hexadecimal}
@@ -33,15 +33,27 @@ undashed names =
     if is_dashed names.image || is_dashed names.configuration || is_dashed names.script || is_dashed names.schedule then None
     else Some names
 
--- what the words of a call ask for, None where they are not taken: each command is given exactly its words, and the word
--- of `codes` is 8 hexadecimal digits of either case
+-- what a command asks for with these words, None where they are not taken: `play` with the names of four files, and
+-- `codes` with a word of 8 hexadecimal digits
+abbrev pub play_request : List ℕ → FileNames → Option Request
+play_request command names = if is_text (codes "play") command then option_map Play (undashed names) else None
+
+abbrev pub codes_request : List ℕ → List ℕ → Option Request
+codes_request command word = if is_text (codes "codes") command then option_map Codes (hexadecimal word) else None
+
+-- what the words of a call ask for, None where they are not taken
 unfoldable pub request_of : List (List ℕ) → Option Request
 request_of (program ∷ command ∷ image ∷ configuration ∷ script ∷ schedule ∷ []) =
-    if is_text (codes "play") command
-    then option_map Play (undashed (record { image = image; configuration = configuration; script = script; schedule = schedule }))
-    else None
-request_of (program ∷ command ∷ word ∷ []) = if is_text (codes "codes") command then option_map Codes (hexadecimal word) else None
+    play_request command (record { image = image; configuration = configuration; script = script; schedule = schedule })
+request_of (program ∷ command ∷ word ∷ []) = codes_request command word
 request_of _ = None
+
+-- the words ask for a run of these files, or for the check bits of this word
+abbrev pub AsksToPlay : List (List ℕ) → FileNames → Type 0
+AsksToPlay words names = request_of words ≡ Some (Play names)
+
+abbrev pub AsksForCodes : List (List ℕ) → ℕ → Type 0
+AsksForCodes words word = request_of words ≡ Some (Codes word)
 
 -- the names as the program keeps them, and what it makes of the words
 abbrev pub told : Names → FileNames

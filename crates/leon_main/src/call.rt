@@ -21,9 +21,11 @@ use std::alloc::Global;
 
 /// The setup that the files of a run spell.
 fn setup_of<F: Files>(alloc: Global, files: &mut F, names: Names) -> Result<Setup, Fault>
-    ensures parts { IfOk result (λ setup. IfSome (F.held files.old) (λ map. (events : List Event) × AreParts (told names.entry) map setup events)) }
+    ensures parts { IfOk result (λ setup. IfSome (F.held files.old)
+        (λ held. (events : List Event) × AreParts (told names.entry) held setup events)) }
     ensures playable { IfOk result IsPlayable }
-    ensures cause { IfErr result (IsCause (told names.entry) (F.held files.old) (F.faults files.old) (F.faults files.new)) }
+    ensures cause { IfErr result
+        (IsCause (told names.entry) (F.held files.old) (F.faults files.old) (F.faults files.new)) }
 {
     let config = reading::configuration(alloc, files, names.configuration)?;
     let image = reading::image(alloc, files, names.image, &config)?;
@@ -45,7 +47,8 @@ fn check_bits(word: u32) -> u8
 
 /// What a call comes to.
 fn outcome_of<F: Files>(alloc: Global, words: &[String], files: &mut F) -> Result<Answer, Fault>
-    ensures { IsOutcome (map string_bytes words.now) (F.held files.old) (F.faults files.old) (F.faults files.new) result }
+    ensures { IsOutcome (map string_bytes words.now) (F.held files.old) (F.faults files.old)
+        (F.faults files.new) result }
 {
     match command_of(words) {
         Some(Command::Play(names)) => {
@@ -60,10 +63,12 @@ fn outcome_of<F: Files>(alloc: Global, words: &[String], files: &mut F) -> Resul
 
 /// Writes the text of an outcome, and gives the status.
 fn tell<K: Sink>(alloc: Global, outcome: &Result<Answer, Fault>, out: &mut K) -> u8
-    ensures told { result ≢ 7 → result ≢ 8 → (result ≡ status_of outcome.now) × Takes (K.taken out.old) (K.taken out.new) (text_of outcome.now) }
+    ensures told { result ≢ 7 → result ≢ 8
+        → (result ≡ status_of outcome.now) × Takes (K.taken out.old) (K.taken out.new) (text_of outcome.now) }
     ensures memory { result ≡ 7 → Takes (K.taken out.old) (K.taken out.new) (line_of Fault.Memory) }
     ensures cut { result ≡ 8 → Rose (K.faults out.old) (K.faults out.new) }
-    ensures part { result ≡ 8 → TakesPrefix (K.taken out.old) (K.taken out.new) (text_of outcome.now) ⊎ TakesPrefix (K.taken out.old) (K.taken out.new) (line_of Fault.Memory) }
+    ensures part { result ≡ 8 → TakesPrefix (K.taken out.old) (K.taken out.new) (text_of outcome.now)
+        ⊎ TakesPrefix (K.taken out.old) (K.taken out.new) (line_of Fault.Memory) }
 {
     match text_of(alloc, outcome) {
         Ok(text) => match lf_io::put_all(out, &text) {
@@ -101,19 +106,26 @@ pub fn plain_call<F: Files, K: Sink>(
 ) -> u8
     // A status other than 7 and 8 comes with its cause, and its whole text was taken. The text of a run is the report
     // of a trace that is a total-store-order execution of the image's code, with that execution's results.
-    ensures answered { result ≢ 7 → result ≢ 8 → IsAnswered (map string_bytes words.now) (F.held files.old) (F.faults files.old) (F.faults files.new) (K.taken out.old) (K.taken out.new) result }
+    ensures answered { result ≢ 7 → result ≢ 8
+        → IsAnswered (map string_bytes words.now) (F.held files.old) (F.faults files.old) (F.faults files.new)
+        (K.taken out.old) (K.taken out.new) result }
 
     // 7 is want of memory, and its line was taken.
     ensures memory { result ≡ 7 → Takes (K.taken out.old) (K.taken out.new) (line_of Fault.Memory) }
 
     // 8 is a fault of the sink, which took a part of the text and nothing more.
     ensures fault { result ≡ 8 → Rose (K.faults out.old) (K.faults out.new) }
-    ensures cut_off { result ≡ 8 → IsCutOff (map string_bytes words.now) (F.held files.old) (F.faults files.old) (F.faults files.new) (K.taken out.old) (K.taken out.new) }
+    ensures cut_off { result ≡ 8
+        → IsCutOff (map string_bytes words.now) (F.held files.old) (F.faults files.old) (F.faults files.new)
+        (K.taken out.old) (K.taken out.new) }
 
-    // Where the files tell what they hold and none of their faults was counted, words and files decide the answer: each
-    // case of them has its own, and they are in just one case.
-    ensures decides { (held : FileMap) → F.held files.old ≡ Some held → IsFaultless (map string_bytes words.now) (F.faults files.old) (F.faults files.new)
+    // Where the files tell what they hold and none of their faults was counted, words and files decide the answer: words
+    // that are not taken, a word for its check bits, the first refusal of the files, or the setup that they spell.
+    ensures decides { (held : FileMap) → F.held files.old ≡ Some held
+        → IsFaultless (map string_bytes words.now) (F.faults files.old) (F.faults files.new)
         → Decides (map string_bytes words.now) held (K.taken out.old) (K.taken out.new) result }
+
+    // Files either spell one setup or have one first refusal.
     ensures settled { (names : FileNames) (held : FileMap) → IsSettled names held }
 {
     let outcome = outcome_of(alloc, words, files);

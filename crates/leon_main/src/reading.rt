@@ -25,8 +25,11 @@ fn bytes_of<F: Files>(
     file: RunFile,
     name: &str,
 ) -> Result<Vec<u8>, Fault>
-    ensures whole { IfOk result (λ bytes. IsWhole (content (F.held files.old) name.now) (limit_of file) bytes.items) }
-    ensures cause { IfErr result (λ fault. (config : Config) → IsFileCause file config (content (F.held files.old) name.now) (F.faults files.old name.now) (F.faults files.new name.now) fault) }
+    ensures whole { IfOk result (λ bytes.
+        IsWhole (content (F.held files.old) name.now) (limit_of file) bytes.items) }
+    ensures cause { IfErr result (λ fault. (config : Config)
+        → IsFileCause file config (content (F.held files.old) name.now) (F.faults files.old name.now)
+        (F.faults files.new name.now) fault) }
     ensures kept { F.held files.new ≡ F.held files.old }
     ensures never_falls { (other : List ℕ) → F.faults files.old other ≤ F.faults files.new other }
 {
@@ -40,9 +43,12 @@ fn bytes_of<F: Files>(
 
 /// The configuration that a file spells.
 pub fn configuration<F: Files>(alloc: Global, files: &mut F, name: &str) -> Result<Config, Fault>
-    ensures spelled { IfOk result (λ config. IfSome (content (F.held files.old) name.now) (λ bytes. SpellsConfiguration bytes config)) }
+    ensures spelled { IfOk result (λ config. IfSome (content (F.held files.old) name.now)
+        (λ bytes. SpellsConfiguration bytes config)) }
     ensures of_table { IfOk result IsOfTable }
-    ensures cause { IfErr result (λ fault. (config : Config) → IsFileCause RunFile.Configuration config (content (F.held files.old) name.now) (F.faults files.old name.now) (F.faults files.new name.now) fault) }
+    ensures cause { IfErr result (λ fault. (config : Config)
+        → IsFileCause RunFile.Configuration config (content (F.held files.old) name.now)
+        (F.faults files.old name.now) (F.faults files.new name.now) fault) }
     ensures kept { F.held files.new ≡ F.held files.old }
     ensures never_falls { (other : List ℕ) → F.faults files.old other ≤ F.faults files.new other }
 {
@@ -57,9 +63,12 @@ pub fn image<F: Files>(
     name: &str,
     config: &Config,
 ) -> Result<Image, Fault>
-    ensures spelled { IfOk result (λ image. IfSome (content (F.held files.old) name.now) (λ bytes. SpellsImage config.now bytes image)) }
+    ensures spelled { IfOk result (λ image. IfSome (content (F.held files.old) name.now)
+        (λ bytes. SpellsImage config.now bytes image)) }
     ensures loadable { IfOk result (IsLoadable config.now.ram) }
-    ensures cause { IfErr result (IsFileCause RunFile.Image config.now (content (F.held files.old) name.now) (F.faults files.old name.now) (F.faults files.new name.now)) }
+    ensures cause { IfErr result
+        (IsFileCause RunFile.Image config.now (content (F.held files.old) name.now)
+        (F.faults files.old name.now) (F.faults files.new name.now)) }
     ensures kept { F.held files.new ≡ F.held files.old }
     ensures never_falls { (other : List ℕ) → F.faults files.old other ≤ F.faults files.new other }
 {
@@ -74,10 +83,13 @@ pub fn script<F: Files>(
     name: &str,
     config: &Config,
 ) -> Result<Flips, Fault>
-    ensures spelled { IfOk result (λ flips. IfSome (content (F.held files.old) name.now) (λ bytes. SpellsScript config.now bytes flips)) }
+    ensures spelled { IfOk result (λ flips. IfSome (content (F.held files.old) name.now)
+        (λ bytes. SpellsScript config.now bytes flips)) }
     ensures few { IfOk result (λ flips. length flips ≤ most_flips) }
     ensures of_machine { IfOk result (All (IsOfMachine config.now)) }
-    ensures cause { IfErr result (IsFileCause RunFile.Script config.now (content (F.held files.old) name.now) (F.faults files.old name.now) (F.faults files.new name.now)) }
+    ensures cause { IfErr result
+        (IsFileCause RunFile.Script config.now (content (F.held files.old) name.now)
+        (F.faults files.old name.now) (F.faults files.new name.now)) }
     ensures kept { F.held files.new ≡ F.held files.old }
     ensures never_falls { (other : List ℕ) → F.faults files.old other ≤ F.faults files.new other }
 {
@@ -95,8 +107,11 @@ pub fn schedule<F: Files>(
     name: &str,
     config: &Config,
 ) -> Result<Vec<Event>, Fault>
-    ensures spelled { IfOk result (λ events. IfSome (content (F.held files.old) name.now) (λ bytes. SpellsSchedule config.now bytes events.items)) }
-    ensures cause { IfErr result (IsFileCause RunFile.Schedule config.now (content (F.held files.old) name.now) (F.faults files.old name.now) (F.faults files.new name.now)) }
+    ensures spelled { IfOk result (λ events. IfSome (content (F.held files.old) name.now)
+        (λ bytes. SpellsSchedule config.now bytes events.items)) }
+    ensures cause { IfErr result
+        (IsFileCause RunFile.Schedule config.now (content (F.held files.old) name.now)
+        (F.faults files.old name.now) (F.faults files.new name.now)) }
     ensures kept { F.held files.new ≡ F.held files.old }
     ensures never_falls { (other : List ℕ) → F.faults files.old other ≤ F.faults files.new other }
 {

@@ -1,6 +1,6 @@
-ghost use Rattle.std.specs.Prelude.{◌≡◌, map, option_map, string_bytes, codes, if◌then◌else◌};
+ghost use Rattle.std.specs.Prelude.{◌≡◌, map, option_map, string_bytes, codes};
 ghost use Rattle.run_texts.specs.Text.{numeral, hexadecimal};
-ghost use Rattle.leon_main.specs.Words.{is_text, is_dashed, undashed, request_of, told, asked, Play, Codes};
+ghost use Rattle.leon_main.specs.Words.{is_text, is_dashed, undashed, play_request, codes_request, request_of, told, asked};
 
 /// What the words of a call ask for.
 #[derive(Clone, Copy)]
@@ -56,9 +56,9 @@ fn undashed(names: Names<'_>) -> Option<Names<'_>>
     }
 }
 
-/// The names of the files of a run, `None` where these words are not taken.
+/// A run of these files, `None` where the words are not taken.
 fn play_of<'a>(command: &str, names: Names<'a>) -> Option<Command<'a>>
-    ensures { option_map asked result ≡ (if is_text (codes "play") command.now then option_map Play (undashed (told names.entry)) else None) }
+    ensures { option_map asked result ≡ play_request command.now (told names.entry) }
 {
     if is_play(command) {
         Some(Command::Play(undashed(names)?))
@@ -67,9 +67,9 @@ fn play_of<'a>(command: &str, names: Names<'a>) -> Option<Command<'a>>
     }
 }
 
-/// The word whose check bits are asked for, `None` where these words are not taken.
+/// The check bits of a word, `None` where the words are not taken.
 fn codes_of(command: &str, word: &str) -> Option<Command<'static>>
-    ensures { option_map asked result ≡ (if is_text (codes "codes") command.now then option_map Codes (hexadecimal word.now) else None) }
+    ensures { option_map asked result ≡ codes_request command.now word.now }
 {
     if is_codes(command) {
         Some(Command::Codes(code_word(word)?))
