@@ -46,20 +46,6 @@ elements-array (datetime dt) items is = absurd cc
 elements-array (array ds) items is = let same : ds ≡ items = cc in ap values_of same
 elements-array (table ms) items is = absurd cc
 
-pub elements-none : (value : Data) → None ≡ as_array value → elements value ≡ []
-elements-none (string s) is = refl
-elements-none (integer z) is = refl
-elements-none (float x) is = refl
-elements-none (boolean b) is = refl
-elements-none (datetime dt) is = refl
-elements-none (array ds) is = absurd cc
-elements-none (table ms) is = refl
-
--- the members of a table are the entries of the map that it holds
-pub entries_of-view : (es : List (String Global × Value)) → entries_of (members_view es) ≡ map (λ e. (string_bytes e.0, view e.1)) es
-entries_of-view [] = refl
-entries_of-view (e ∷ es) = ap (λ (others : List (List ℕ × Data)). (string_bytes e.0, view e.1) ∷ others) (entries_of-view es)
-
 some_of-map : {A B : Type 0} (f : A → B) (o : Option A) (x : Option B) → option_map f o ≡ x → is_some o ≡ true → is_some x ≡ true
 some_of-map f None x same some = absurd cc
 some_of-map f (Some a) x same some = rw (← same) refl

@@ -1,4 +1,4 @@
--- The table of the keys of a configuration. It is a TOML document, and each key is optional.
+-- The table of the keys of a configuration, which is a TOML document. Each key is optional.
 use Rattle.std.specs.Prelude.{ℕ, ◌≡◌, ◌<◌, ◌≤◌, ◌*◌, ◌%◌, Bool, true, ◌==◌, ◌&&◌, nat_lt, nat_le, List, [], ◌∷◌, codes}
 use Rattle.std.specs.List.{list_any, before_first, after_first}
 use Rattle.lf_model.specs.declared.config.Config.{Config}
@@ -16,6 +16,7 @@ pub record Row : Type 0 where
   pub kind : Kind
   pub is_in_range : Config → ℕ → Bool
 
+-- the row of a path, a kind and a range
 abbrev pub at_path : List ℕ → Kind → (Config → ℕ → Bool) → Row
 at_path path kind is_in_range = record { path = path; kind = kind; is_in_range = is_in_range }
 
@@ -51,7 +52,7 @@ keys =
     Cores ∷ Ram ∷ Steps ∷ Window ∷ Buffer ∷ Watch ∷ FetchWays ∷ FetchSets ∷ LoadWays ∷ LoadSets
     ∷ ScrubFirst ∷ ScrubLength ∷ ScrubTurns ∷ []
 
--- what stands before the dot of a key's path, and behind it
+-- the section of a key stands before the dot of its path, and the name in it behind the dot
 abbrev pub section_of : Key → List ℕ
 section_of key = before_first (λ byte. byte == 46) (row key).path
 
