@@ -1,15 +1,14 @@
 -- What an instruction comes to, by the line in the hand.
-use Rattle.std.proofs.Common.{◌≡◌, ℕ, ◌+◌, ◌<◌, ◌≤◌, ◌==◌, Bool, true, false, List, [], ◌∷◌, ◌++◌, length, Option, Some, None, cond, refl, ap, sym, subst, ◌∙◌, inl, inr, ◌⊎◌, is_some, arith, vec_len}
-use Rattle.std.proofs.lemmas.Bool.{cases_Bool, and_parts, leb-true, ltb-true}
+use Rattle.std.proofs.Common.{◌≡◌, ℕ, ◌+◌, ◌<◌, ◌==◌, Bool, true, false, List, [], ◌∷◌, ◌++◌, length, Option, Some, None, cond, refl, ap, sym, subst, ◌∙◌, inl, inr, ◌⊎◌, is_some, arith}
+use Rattle.std.proofs.lemmas.Bool.{cases_Bool}
 use Rattle.std.proofs.lemmas.Option.{same_Some}
 use Rattle.lf_model.specs.Start.{initial_byte, number_at}
-use Rattle.lf_model.specs.Operation.{entry_reads, touches, byte_got, byte_of, kind_reads}
+use Rattle.lf_model.specs.Operation.{entry_reads, touches, byte_got, kind_reads}
 use Rattle.lf_model.specs.State.{State}
-use Rattle.lf_model.specs.Effect.{Access, Effect, Site}
+use Rattle.lf_model.specs.Effect.{Access, Effect}
 use Rattle.lf_model.specs.Traps.{trap_effect}
-use Rattle.lf_model.specs.Value.{stored}
-use Rattle.lf_model.specs.Run.{Run, operation, with_access, performed, site_of, effect_at_pc}
-use Rattle.lf_model.specs.Step.{Parts as Answers, first_bad, barrier_row, came_to, answer_of, run_after, Does, looked, counted, IsSound, state_of, Seen}
+use Rattle.lf_model.specs.Run.{Run, operation, with_access, performed, effect_at_pc}
+use Rattle.lf_model.specs.Step.{Parts as Answers, first_bad, barrier_row, came_to, answer_of, run_after, Does, looked, counted}
 use Rattle.lf_model.specs.declared.bus.Entry.{Entry}
 use Rattle.lf_model.specs.declared.bus.OpKind.{OpKind}
 use Rattle.lf_model.specs.declared.bus.OpKind.TheVariants as ops
@@ -18,22 +17,21 @@ use Rattle.lf_model.specs.declared.bus.Why.TheVariants.{Absent}
 use Rattle.lf_model.specs.declared.control.Arch.{Arch}
 use Rattle.lf_model.specs.declared.setup.Setup.{Setup}
 use Rattle.lf_model.specs.declared.step.Did.{Did}
-use Rattle.lf_model.specs.declared.step.Did.TheVariants.{Retired, Turned, Need, Halt, Stop, Unbuilt}
+use Rattle.lf_model.specs.declared.step.Did.TheVariants.{Retired, Need, Halt}
 use Rattle.lf_model.specs.declared.step.Turn.TheVariants.{Load}
 use Rattle.v8_exec.specs.Frame.{Counts}
 use Rattle.machine_play.specs.declared.hand.Hand.{Hand}
 use Rattle.machine_play.specs.declared.parts.Parts.{Parts}
-use Rattle.machine_play.specs.Hand.{byte_in, has_bytes, look_in, parts_with, IsHandOf}
-use Rattle.machine_play.specs.Seen.{seen_of, run_of, room_of}
-use Rattle.machine_play.specs.Memory.{entry_enters, NumberedFrom, ReadsEach, RunIs, halted, byte_after}
+use Rattle.machine_play.specs.Hand.{byte_in, has_bytes, parts_with, IsHandOf}
+use Rattle.machine_play.specs.Seen.{seen_of, run_of}
+use Rattle.machine_play.specs.Memory.{NumberedFrom, ReadsEach, RunIs, halted, byte_after}
 use Rattle.machine_play.specs.Transfers.{line_of}
-use Rattle.machine_play.specs.Core.{IsCore, Runs, HandFits, IsWordAccess, MakesNothing, MakesLoad, MakesStore, Makes, IsLoadAt, Misses, Halts, IsUnbuilt, Comes}
+use Rattle.machine_play.specs.Core.{IsCore, HandFits, IsWordAccess, Makes, IsLoadAt, Comes}
 use Rattle.machine_play.specs.Core.Makes.{Nothing, ALoad, AStore}
 use Rattle.machine_play.proofs.EffectLemmas.{AccessFits, IsPlain, IsTrap, known}
 use Rattle.machine_play.proofs.EffectLemmas.AccessFits.{None_asked, Load_asked, Store_asked}
 use Rattle.machine_play.proofs.RunLemmas.{IsAnswer, run_further}
 use Rattle.machine_play.proofs.OneCore.{numbered_push}
-use Rattle.machine_play.proofs.NumberLemmas.{byte_of_number}
 use Rattle.machine_play.proofs.MemoryLemmas.{reads_push, load_reads}
 
 none_bad : (hand : Option Hand) (window : ℕ) (registers : List ℕ) → first_bad (parts_with hand) window registers ≡ None

@@ -8,7 +8,7 @@ use Rattle.lf_model.specs.Instructions.{registers_read}
 use Rattle.lf_model.specs.State.{State, register}
 use Rattle.lf_model.specs.Effect.{Site, Access, Effect, sum_of_operands}
 use Rattle.lf_model.specs.Traps.{when, first_trap, trap_effect, unless_trap, fetch_trap}
-use Rattle.lf_model.specs.Memory.{access_misaligned, access_refused, load_effect, output_effect, store_effect, word_effect, mem_effect}
+use Rattle.lf_model.specs.Memory.{load_effect, output_effect, store_effect, word_effect, mem_effect}
 use Rattle.lf_model.specs.StateRegisters.{read_state_effect, write_state_effect}
 use Rattle.lf_model.specs.Effects.{ordinary_trap, completed, effect}
 use Rattle.lf_model.specs.Built.{built}

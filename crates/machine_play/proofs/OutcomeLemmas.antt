@@ -1,26 +1,23 @@
 -- What an instruction leaves of the machine, by what it came to.
-use Rattle.std.proofs.Common.{◌≡◌, ℕ, ◌+◌, ◌-◌, ◌<◌, ◌≤◌, refl, ap, sym, subst, ◌∙◌, arith, List, [], ◌∷◌, ◌++◌, map, length, Option, Some, None, vec_len}
-use Rattle.std.specs.Vec.{vec_capacity}
+use Rattle.std.proofs.Common.{◌≡◌, ℕ, ◌+◌, ◌-◌, ◌<◌, ◌≤◌, refl, ap, sym, subst, arith, List, [], length, Option, Some, None}
 use Rattle.std.specs.List.{AllByRecursion as Each}
-use Rattle.lf_model.specs.Run.{Run, effect_at_pc}
-use Rattle.lf_model.specs.Results.{idle_steps}
+use Rattle.lf_model.specs.Run.{Run}
 use Rattle.lf_model.specs.declared.bus.Entry.{Entry}
 use Rattle.lf_model.specs.declared.bus.Transfer.{Transfer}
 use Rattle.lf_model.specs.declared.control.Arch.{Arch}
 use Rattle.lf_model.specs.declared.setup.Setup.{Setup}
 use Rattle.lf_model.specs.declared.trace.Op.{Op}
 use Rattle.lf_model.specs.declared.trace.Word2.{Word2}
-use Rattle.lf_model.specs.declared.trace.CoreEnd.{CoreEnd}
-use Rattle.lf_model.specs.declared.trace.CoreEnd.TheVariants.{Halt, Stop, Limit, Unbuilt}
+use Rattle.lf_model.specs.declared.trace.CoreEnd.TheVariants.{Halt, Limit, Unbuilt}
 use Rattle.machine_play.specs.declared.hand.Hand.{Hand}
 use Rattle.machine_play.specs.declared.parts.Parts.{Parts}
 use Rattle.machine_play.specs.declared.machine.Machine.{Machine}
-use Rattle.machine_play.specs.Memory.{RunIs, halted}
-use Rattle.machine_play.specs.Seen.{seen_of, run_of, room_of}
-use Rattle.machine_play.specs.Core.{IsCore, Runs, HandFits, Makes, Misses, Halts, IsUnbuilt}
-use Rattle.machine_play.specs.Transfers.{Service, service_by, service_for, IsLineFill, IsLeft}
+use Rattle.machine_play.specs.Memory.{RunIs}
+use Rattle.machine_play.specs.Seen.{run_of, room_of}
+use Rattle.machine_play.specs.Core.{IsCore, Makes, Misses, Halts, IsUnbuilt}
+use Rattle.machine_play.specs.Transfers.{IsLineFill}
 use Rattle.machine_play.specs.Machine.{IsOrder, IsBusOf, in_hand, AreTurns, HasRoom, Going, HasRoomYet, Retiring, Reading}
-use Rattle.machine_play.specs.Ending.{RunEnds, Ended}
+use Rattle.machine_play.specs.Ending.{Ended}
 use Rattle.lf_model.proofs.EachLemmas.{each_weaker}
 
 -- the machine with its core after an instruction

@@ -1,7 +1,7 @@
 -- What is known of the machine after one more step.
-use Rattle.std.proofs.Common.{◌≡◌, ℕ, zero, suc, ◌+◌, ◌-◌, ◌*◌, ◌/◌, ◌%◌, ◌^◌, ◌<◌, ◌≤◌, refl, ap, sym, subst, ◌∙◌, arith, inl, inr, get_or, cond, Bool, true, false, List, [], ◌∷◌, ◌++◌, ◌&&◌, nat_le, nat_lt, length, take, map, Option, Some, None, vec_len, Vec, length-append, IsTrue, lit<}
+use Rattle.std.proofs.Common.{◌≡◌, ℕ, ◌+◌, ◌-◌, ◌*◌, ◌/◌, ◌%◌, ◌^◌, ◌<◌, ◌≤◌, refl, ap, sym, subst, ◌∙◌, arith, get_or, cond, Bool, true, false, List, [], ◌∷◌, ◌++◌, ◌&&◌, nat_le, length, take, map, Option, Some, None, vec_len, Vec, length-append, IsTrue}
 use Rattle.std.specs.Prelude.{find}
-use Rattle.std.specs.List.{slice_get, AllByRecursion as Each, count_by}
+use Rattle.std.specs.List.{slice_get, AllByRecursion as Each}
 use Rattle.std.specs.Vec.{vec_capacity}
 use Rattle.std.specs.declared.alloc.Global.{Global}
 use Rattle.std.proofs.lemmas.List.{length-map, map-append, append-nil, take_all}
@@ -9,12 +9,11 @@ use Rattle.std.proofs.lemmas.Option.{slice_get_past, get_or_from_slice_get, same
 use Rattle.std.proofs.lemmas.Bool.{and_parts, leb-true}
 use Rattle.std.proofs.lemmas.Bool.Decides.{nat_tests}
 use Rattle.std.proofs.Math.Seq.{get_or-append_seam, take-append_seam}
-use Rattle.lf_model.specs.Start.{ram_first, is_in_ram, number_at}
+use Rattle.lf_model.specs.Start.{ram_first, is_in_ram}
 use Rattle.lf_model.specs.Effect.{Access}
-use Rattle.lf_model.specs.Flips.{Moment, is_bad_word, syndrome}
+use Rattle.lf_model.specs.Flips.{is_bad_word, syndrome}
 use Rattle.lf_model.specs.WordHistory.{begun, history}
 use Rattle.lf_model.specs.Operation.{byte_of, kind_made, kind_is_lost, made, is_lost}
-use Rattle.lf_model.specs.Run.{Run}
 use Rattle.lf_model.specs.Results.{idle_steps}
 use Rattle.lf_model.specs.StopCause.{wanted_words}
 use Rattle.lf_model.specs.declared.bus.Entry.{Entry}
@@ -28,20 +27,20 @@ use Rattle.lf_model.specs.declared.setup.Setup.{Setup}
 use Rattle.lf_model.specs.declared.trace.Op.{Op}
 use Rattle.lf_model.specs.declared.trace.Word2.{Word2}
 use Rattle.lf_model.specs.declared.flip.Flip.{Flip}
-use Rattle.lf_model.specs.declared.trace.CoreEnd.TheVariants.{Halt, Stop, Limit, Unbuilt}
+use Rattle.lf_model.specs.declared.trace.CoreEnd.TheVariants.{Stop}
 use Rattle.lf_model.proofs.EachLemmas.{each_append, each_weaker}
 use Rattle.ft_memory.specs.Memory.{place_of}
 use Rattle.ahb_bus.specs.BusState.{BusState, met, fill_made, store_made, after_turn, with_word, ram_size, ShowsLine}
 use Rattle.machine_play.specs.declared.hand.Hand.{Hand}
 use Rattle.machine_play.specs.declared.machine.Machine.{Machine}
 use Rattle.machine_play.specs.Memory.{entry_enters, HoldsWords, PutsFit, HasBytes, byte_after}
-use Rattle.machine_play.specs.Hand.{byte_in, has_bytes, IsHandOf}
-use Rattle.machine_play.specs.Seen.{run_of, room_of}
-use Rattle.machine_play.specs.Core.{Runs, HandFits, MakesNothing, MakesLoad, MakesStore, Makes, IsLoadAt, Misses, Halts, IsUnbuilt}
+use Rattle.machine_play.specs.Hand.{byte_in, has_bytes}
+use Rattle.machine_play.specs.Seen.{run_of}
+use Rattle.machine_play.specs.Core.{HandFits, MakesNothing, MakesLoad, MakesStore, Makes}
 use Rattle.machine_play.specs.Core.Makes.{Nothing, ALoad, AStore}
-use Rattle.machine_play.specs.Transfers.{Service, service_by, service_for, service_of, is_load_turn, line_of}
-use Rattle.machine_play.specs.Machine.{op_in, IsOrder, met_in, IsBusOf, in_hand, AreTurns, HasRoom, Going, HasRoomYet, Retiring, Reading}
-use Rattle.machine_play.specs.Ending.{IsStopped, Ended}
+use Rattle.machine_play.specs.Transfers.{Service, service_by, service_for, service_of, line_of}
+use Rattle.machine_play.specs.Machine.{op_in, IsOrder, met_in, IsBusOf, in_hand, AreTurns, Going, Retiring, Reading}
+use Rattle.machine_play.specs.Ending.{Ended}
 use Rattle.machine_play.proofs.NumberLemmas.{byte_of_number}
 use Rattle.machine_play.proofs.MemoryLemmas.{words_after_load, place_is, byte_small}
 use Rattle.machine_play.proofs.TurnLemmas.{core_in, slice_get_seam, met_now, bus_filled, bus_stored, served_more, served_by, ascending_push, below_push, count_push}

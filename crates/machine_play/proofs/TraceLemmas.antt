@@ -1,18 +1,17 @@
 -- The transfers of a machine that has ended, as its trace tells them.
-use Rattle.std.proofs.Common.{◌≡◌, ℕ, zero, suc, ◌+◌, ◌-◌, ◌*◌, ◌<◌, ◌≤◌, ◌==◌, ◌&&◌, ◌||◌, not, refl, ap, ap₂, sym, subst, ◌∙◌, arith, cond, Bool, true, false, List, [], ◌∷◌, ◌++◌, length, take, drop, map, filter, Option, Some, None, option_map, eq-eqb}
-use Rattle.std.specs.Prelude.{IfSome, nat_lt}
+use Rattle.std.proofs.Common.{◌≡◌, ℕ, suc, ◌+◌, ◌<◌, ◌≤◌, ◌&&◌, not, refl, ap, ap₂, sym, subst, ◌∙◌, arith, cond, Bool, true, false, List, [], ◌∷◌, ◌++◌, drop, map, filter, Option, Some, None, option_map, eq-eqb}
+use Rattle.std.specs.Prelude.{IfSome}
 use Rattle.std.specs.List.{slice_get, AllByRecursion as Each, list_any, count_by}
 use Rattle.std.proofs.lemmas.List.Sums.{sum_by-cons}
 use Rattle.std.proofs.lemmas.Bool.{lt-ltb}
 use Rattle.std.proofs.lemmas.Option.{slice_get-map}
 use Rattle.lf_model.specs.Operation.{enters, kind_enters, is_lost, kind_is_lost}
 use Rattle.lf_model.specs.TransferLines.{makes_entry, core_stops_at}
-use Rattle.lf_model.specs.StopCause.{with_entries, entered_as, transfers_of}
+use Rattle.lf_model.specs.StopCause.{with_entries, entered_as}
 use Rattle.lf_model.specs.Results.{is_in_steps}
 use Rattle.lf_model.specs.declared.bus.OpKind.{OpKind}
 use Rattle.lf_model.specs.declared.bus.OpKind.TheVariants as ops
 use Rattle.lf_model.specs.declared.bus.Transfer.{Transfer}
-use Rattle.lf_model.specs.declared.bus.TurnKind.{TurnKind}
 use Rattle.lf_model.specs.declared.bus.TurnKind.TheVariants.{Load, Store}
 use Rattle.lf_model.specs.declared.trace.CoreResult.{CoreResult}
 use Rattle.lf_model.specs.declared.trace.Op.{Op}

@@ -1,21 +1,19 @@
 -- The bus and its transfers after one more turn.
-use Rattle.std.proofs.Common.{◌≡◌, ℕ, zero, suc, ◌+◌, ◌-◌, ◌*◌, ◌/◌, ◌%◌, ◌^◌, ◌<◌, ◌≤◌, refl, ap, ap₂, sym, subst, ◌∙◌, arith, inl, inr, get_or, cond, Bool, true, false, List, [], ◌∷◌, ◌++◌, ◌&&◌, nat_le, nat_lt, length, take, drop, map, Option, Some, None, length-append, length-set, append_assoc, set, IsTrue}
+use Rattle.std.proofs.Common.{◌≡◌, ℕ, zero, suc, ◌+◌, ◌*◌, ◌%◌, ◌^◌, ◌<◌, ◌≤◌, refl, ap, ap₂, sym, subst, ◌∙◌, arith, inl, inr, cond, true, List, [], ◌∷◌, ◌++◌, length, take, map, Option, Some, None, length-append, length-set, IsTrue}
 use Rattle.std.specs.Prelude.{IfSome}
 use Rattle.std.specs.List.{slice_get, AllByRecursion as Each, range_with_len, count_by}
-use Rattle.std.proofs.lemmas.Bool.{cases_eq, cases_lt, and_parts, leb-true, ltb-true}
+use Rattle.std.proofs.lemmas.Bool.{cases_eq, cases_lt}
 use Rattle.std.proofs.Math.Seq.{take-append_seam}
 use Rattle.std.proofs.lemmas.List.{take-append-le, map-append, append-nil}
 use Rattle.std.proofs.lemmas.List.Sums.{sum_by-append, sum_by-cons}
 use Rattle.std.proofs.lemmas.Option.{slice_get_past}
-use Rattle.std.proofs.lemmas.Bool.Decides.{nat_tests}
-use Rattle.lf_model.specs.Start.{ram_first, is_in_ram}
+use Rattle.lf_model.specs.Start.{is_in_ram}
 use Rattle.lf_model.specs.Flips.{Moment, syndrome}
 use Rattle.lf_model.specs.WordHistory.{begun, history}
 use Rattle.lf_model.specs.declared.bus.Entry.{Entry}
 use Rattle.lf_model.specs.declared.bus.Line.{Line}
-use Rattle.lf_model.specs.declared.bus.OpKind.TheVariants as ops
 use Rattle.lf_model.specs.declared.bus.Transfer.{Transfer}
-use Rattle.lf_model.specs.declared.bus.TurnKind.TheVariants.{Load, Store}
+use Rattle.lf_model.specs.declared.bus.TurnKind.TheVariants.{Load}
 use Rattle.lf_model.specs.declared.bus.Why.TheVariants.{Absent, Full}
 use Rattle.lf_model.specs.declared.flip.Flip.{Flip}
 use Rattle.lf_model.specs.declared.setup.Setup.{Setup}
@@ -24,10 +22,10 @@ use Rattle.lf_model.proofs.EachLemmas.{each_append, each_weaker}
 use Rattle.ft_memory.specs.Memory.{place_of}
 use Rattle.ahb_bus.specs.BusState.{BusState, met, packed, fill_made, store_made, after_turn, with_word, without_length, ram_size, ShowsLine}
 use Rattle.ahb_bus.specs.declared.record.Who.{Who}
-use Rattle.machine_play.specs.Memory.{entry_enters, HoldsWords}
-use Rattle.machine_play.specs.Transfers.{IsFill, IsWordStore, IsTransfer, Service, service_by, service_for, service_of, is_load_turn, HasAscendingSteps, line_of}
-use Rattle.machine_play.specs.Machine.{met_in, AreTransfers, IsBusOf, AreTurns}
-use Rattle.machine_play.proofs.MemoryLemmas.{IsPlace, place_is, words_after_store}
+use Rattle.machine_play.specs.Memory.{entry_enters}
+use Rattle.machine_play.specs.Transfers.{IsTransfer, Service, service_by, service_for, is_load_turn, HasAscendingSteps}
+use Rattle.machine_play.specs.Machine.{met_in, AreTransfers, IsBusOf}
+use Rattle.machine_play.proofs.MemoryLemmas.{place_is, words_after_store}
 
 -- core 0 in a step
 abbrev pub core_in : ℕ → Who

@@ -1,24 +1,21 @@
 -- What one instruction makes of a core without caches, by the line in its hand.
-use Rattle.std.specs.Prelude.{ℕ, ◌≡◌, ◌<◌, ◌+◌, ◌%◌, ◌++◌, ◌∷◌, [], true, List, length, Option, Some, None, vec_len}
-use Rattle.lf_model.specs.Start.{initial_byte, is_in_ram, number_at}
+use Rattle.std.specs.Prelude.{ℕ, ◌≡◌, ◌%◌, ◌++◌, ◌∷◌, [], true, List, Option, Some, None, vec_len}
+use Rattle.lf_model.specs.Start.{initial_byte, is_in_ram}
 use Rattle.lf_model.specs.Effect.{Access, Effect}
-use Rattle.lf_model.specs.Run.{Run, site_of, operation, effect_at_pc}
+use Rattle.lf_model.specs.Run.{Run, site_of, effect_at_pc}
 use Rattle.lf_model.specs.Step.{IsSound}
 use Rattle.lf_model.specs.declared.bus.Entry.{Entry}
 use Rattle.lf_model.specs.declared.bus.OpKind.TheVariants as ops
-use Rattle.lf_model.specs.declared.bus.Why.{Why}
-use Rattle.lf_model.specs.declared.bus.Why.TheVariants.{Absent}
 use Rattle.lf_model.specs.declared.control.Arch.{Arch}
 use Rattle.lf_model.specs.declared.setup.Setup.{Setup}
 use Rattle.lf_model.specs.declared.step.Did.{Did}
 use Rattle.lf_model.specs.declared.step.Did.TheVariants.{Retired, Need, Halt, Unbuilt}
-use Rattle.lf_model.specs.declared.step.Turn.{Turn}
 use Rattle.lf_model.specs.declared.step.Turn.TheVariants.{Load}
 use Rattle.machine_play.specs.declared.hand.Hand.{Hand}
 use Rattle.machine_play.specs.declared.parts.Parts.{Parts}
-use Rattle.machine_play.specs.Hand.{byte_in, IsHandOf}
+use Rattle.machine_play.specs.Hand.{IsHandOf}
 use Rattle.machine_play.specs.Seen.{seen_of, run_of}
-use Rattle.machine_play.specs.Memory.{NumberedFrom, ReadsEach, RunIs, halted, byte_after}
+use Rattle.machine_play.specs.Memory.{NumberedFrom, ReadsEach, RunIs, halted}
 use Rattle.machine_play.specs.Transfers.{line_of}
 
 -- what holds of core 0 at each step: its bounds, its place in the setup, and its operations, whose loads read memory

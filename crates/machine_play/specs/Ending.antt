@@ -1,5 +1,5 @@
 -- How the machine ends, and what is known of it then.
-use Rattle.std.specs.Prelude.{ℕ, ◌≡◌, ◌≤◌, ◌+◌, ◌-◌, ◌++◌, ◌∷◌, [], ⊤, true, List, Option, Some, None, length, find}
+use Rattle.std.specs.Prelude.{ℕ, ◌≡◌, ◌≤◌, ◌+◌, ◌-◌, ◌++◌, ◌∷◌, [], List, Option, Some, None, length, find}
 use Rattle.std.specs.List.{AllByRecursion}
 use Rattle.lf_model.specs.Effect.{Access, Effect}
 use Rattle.lf_model.specs.Flips.{is_bad_word, syndrome}

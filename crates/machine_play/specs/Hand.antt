@@ -1,5 +1,5 @@
 -- The line that a core holds after a load turn, until the load takes its word from it.
-use Rattle.std.specs.Prelude.{ℕ, ◌≡◌, ◌<◌, ◌+◌, ◌-◌, ◌/◌, ◌%◌, Bool, true, false, ◌&&◌, nat_le, slice_index, List, Option, Some, None, if◌then◌else◌}
+use Rattle.std.specs.Prelude.{ℕ, ◌≡◌, ◌<◌, ◌+◌, ◌-◌, ◌/◌, ◌%◌, Bool, true, false, ◌&&◌, nat_le, slice_index, Option, Some, None, if◌then◌else◌}
 use Rattle.lf_model.specs.Start.{number_at}
 use Rattle.lf_model.specs.Operation.{byte_of}
 use Rattle.lf_model.specs.Effect.{Access, Effect}

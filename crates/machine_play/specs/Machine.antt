@@ -1,5 +1,5 @@
 -- The machine while it goes on: its core, memory order, bus and hand, and how they belong together.
-use Rattle.std.specs.Prelude.{ℕ, ◌≡◌, ◌≤◌, ◌<◌, ◌+◌, ◌-◌, ◌++◌, ◌∷◌, [], false, List, Option, Some, None, length, map, take, slice_get, IfSome, vec_len}
+use Rattle.std.specs.Prelude.{ℕ, ◌≡◌, ◌≤◌, ◌<◌, ◌+◌, ◌-◌, ◌++◌, ◌∷◌, [], false, List, Option, Some, None, map, take, slice_get, IfSome, vec_len}
 use Rattle.std.specs.Vec.{vec_capacity}
 use Rattle.std.specs.List.{AllByRecursion, count_by}
 use Rattle.lf_model.specs.Flips.{Moment}

@@ -1,5 +1,5 @@
 -- Which setups one core without caches can play.
-use Rattle.std.specs.Prelude.{ℕ, ◌≡◌, ◌≤◌, ◌%◌, All, length, []}
+use Rattle.std.specs.Prelude.{◌≡◌, ◌≤◌, ◌%◌, All, length, []}
 use Rattle.lf_model.specs.Start.{IsLoadable}
 use Rattle.lf_model.specs.declared.setup.Setup.{Setup}
 use Rattle.ahb_bus.specs.BusState.{AimsInRam}

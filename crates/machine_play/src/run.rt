@@ -86,9 +86,11 @@ fn named_words(named: &Option<Word2>) -> &[Word2] {
     }
 }
 
-/// Runs the image on one core without caches, over coded memory that the script's flips strike, from reset to its end.
+/// Runs an image on one core without caches, over coded memory that the script's flips strike, from reset to its end.
 ///
-/// All records are reserved before the first step.
+/// The setup has one core, no scrubber and no watched words; RAM is a multiple of 65,536 bytes, to 16,777,216; the core
+/// makes 1 to 4,000,000 steps; the image can be loaded, and each of at most 65,536 flips of memory is for a bit of a word
+/// in RAM. Flips of other units are late. All records are reserved before the first step.
 ///
 /// # Errors
 ///

@@ -1,4 +1,4 @@
-use Rattle.std.proofs.Common.{◌≡◌, ◌+◌, refl}
+use Rattle.std.proofs.Common.{◌+◌, refl}
 use Rattle.lf_model.specs.Step.{counted}
 use Rattle.machine_play.specs.Seen.{run_of, room_of}
 use Rattle.machine_play.proofs.CoreLemmas.{Came, came, core_after, comes_after}

@@ -1,5 +1,4 @@
-use Rattle.std.proofs.Common.{◌≡◌, None, refl, arith}
-use Rattle.machine_play.specs.declared.machine.Machine.{Machine}
+use Rattle.std.proofs.Common.{None, refl, arith}
 use Rattle.machine_play.proofs.StartingLemmas.{started}
 use Rattle.machine_play.proofs.run.reset.Goals as goal
 

@@ -1,4 +1,4 @@
-use Rattle.std.proofs.Common.{◌≡◌, ◌<◌, ◌-◌, ◌^◌}
+use Rattle.std.proofs.Common.{◌≡◌}
 use Rattle.machine_play.specs.Machine.{Going}
 use Rattle.machine_play.proofs.run.run.Given as goal
 

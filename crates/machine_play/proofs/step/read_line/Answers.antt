@@ -1,4 +1,4 @@
-use Rattle.std.proofs.Common.{◌≡◌, ◌∙◌, refl, sym, subst, Option, Some, None}
+use Rattle.std.proofs.Common.{refl, sym, subst, Option}
 use Rattle.machine_play.specs.declared.machine.Ending.{Ending}
 use Rattle.machine_play.specs.Ending.{StepsOn}
 use Rattle.machine_play.proofs.StepLemmas.{line_in_ram, LineTurn, going_read, ended_stop}

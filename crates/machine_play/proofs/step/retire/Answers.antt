@@ -1,9 +1,8 @@
-use Rattle.std.proofs.Common.{◌≡◌, ◌∙◌, ◌++◌, ◌∷◌, [], ℕ, List, Option, Some, ap, sym, length, subst, refl}
+use Rattle.std.proofs.Common.{◌≡◌, ◌∙◌, ◌++◌, ◌∷◌, [], Some, ap, sym, length, refl}
 use Rattle.std.specs.List.{slice_get}
-use Rattle.lf_model.specs.declared.bus.Entry.{Entry}
 use Rattle.lf_model.specs.declared.trace.Op.{Op}
 use Rattle.machine_play.specs.Machine.{op_in}
-use Rattle.machine_play.proofs.StepLemmas.{order_len, newest_at, IsPushed, makes_store, makes_load, CanStore, can_store, going_store, going_load}
+use Rattle.machine_play.proofs.StepLemmas.{newest_at, IsPushed, makes_store, makes_load, can_store, going_store, going_load}
 use Rattle.machine_play.proofs.step.retire.Goals as goal
 
 pub returns-in-Store : goal.returns-in-Store

@@ -1,7 +1,7 @@
-use Rattle.std.proofs.Common.{◌≡◌, ◌∙◌, refl, sym, arith, subst, Option}
+use Rattle.std.proofs.Common.{refl, sym, arith, subst, Option}
 use Rattle.machine_play.specs.declared.machine.Ending.{Ending}
 use Rattle.machine_play.specs.Ending.{StepsOn}
-use Rattle.machine_play.proofs.OutcomeLemmas.{with_core, retiring_from, reading_from, halted_from, unbuilt_from}
+use Rattle.machine_play.proofs.OutcomeLemmas.{with_core, retiring_from, halted_from, unbuilt_from}
 use Rattle.machine_play.proofs.step.step.Goals as goal
 
 pub retire-requires : goal.retire-requires

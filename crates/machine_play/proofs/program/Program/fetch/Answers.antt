@@ -1,4 +1,4 @@
-use Rattle.std.proofs.Common.{◌≡◌, ◌∙◌, ◌-◌, ℕ, length, slice_index, List, arith, subst, sym}
+use Rattle.std.proofs.Common.{◌≡◌, ◌-◌, ℕ, slice_index, List, arith, subst}
 use Rattle.lf_model.specs.Start.{ram_first, number_at}
 use Rattle.machine_play.proofs.StartLemmas.{fetched_in_ram, fetched_word}
 use Rattle.machine_play.proofs.program.Program.fetch.Goals as goal

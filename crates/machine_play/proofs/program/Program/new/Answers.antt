@@ -1,4 +1,4 @@
-use Rattle.std.proofs.Common.{◌≡◌, ◌+◌, ◌<◌, ℕ, List, slice_index, subst, arith}
+use Rattle.std.proofs.Common.{◌<◌, ℕ, List, slice_index, subst, arith}
 use Rattle.machine_play.proofs.program.Program.new.Goals as goal
 
 pub invariant_of-result-clause-has_bytes : goal.invariant_of-result-clause-has_bytes
