@@ -8,11 +8,11 @@ use Rattle.ft_memory.specs.Cells.{CellState, fresh}
 abbrev pub ram_of : List CellState → ℕ
 ram_of cells = 4 * length cells
 
--- the number of the word of RAM at an address, a multiple of 4
+-- the number of the word of RAM that an address lies in
 abbrev pub place_of : ℕ → ℕ
 place_of addr = (addr - ram_first) / 4
 
--- the cell of the word at an address of RAM
+-- the cell of the word that an address of RAM lies in
 abbrev pub cell_at : List CellState → ℕ → CellState
 cell_at cells addr = slice_index_or cells (place_of addr) (fresh 0)
 

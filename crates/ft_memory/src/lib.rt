@@ -8,6 +8,7 @@
 
 mod answer;
 mod cell;
+mod part;
 mod ram;
 mod start;
 #[cfg(test)]

@@ -2,9 +2,11 @@ ghost use Rattle.std.specs.Prelude.{◌≡◌, ◌+◌, ◌%◌, ◌^◌, ◌<�
 ghost use Rattle.lf_model.specs.Start.{ram_first, is_in_ram};
 ghost use Rattle.ft_memory.specs.Cells.{cell_bits, fresh, is_bad, shown_word, syndrome_of, FlipsCell};
 ghost use Rattle.ft_memory.specs.Memory.{ram_of, place_of, cell_at, line_at, IsInRam, HoldsImage};
+ghost use Rattle.ft_memory.specs.Parts.{word_address, is_part, merged, HasMergedBytes};
 
 use crate::answer::{Flipped, Got};
 use crate::cell::Cell;
+use crate::part::{merged, word_address};
 use crate::start::{initial_bytes, word_at};
 use lf_model::addresses::RAM_FIRST;
 use lf_model::bus::{Bad, Line};
@@ -30,7 +32,7 @@ impl Model for Memory {
     ghost view = { λ memory. memory.cells.items };
 }
 
-/// The number of the word of RAM at an address.
+/// The number of the word of RAM that an address lies in.
 fn place_of(addr: u32) -> usize
     requires { ram_first ≤ addr }
     ensures { result ≡ place_of addr }
@@ -112,6 +114,40 @@ impl Memory {
         ensures written { self.new ≡ slice_set self.old (place_of addr) (fresh v) }
     {
         self.cells[place_of(addr)] = Cell::new(v);
+    }
+
+    /// Writes a byte or half (`len` 1 or 2) at an address of RAM, a multiple of `len`: the low bytes of `v`. The word that it
+    /// lies in is read, put right and merged with it, and written whole. Gives the syndrome that was read.
+    ///
+    /// # Errors
+    ///
+    /// The word is bad: two different bits of its cell are turned. The error has the word's address, and nothing changes.
+    pub fn write_part(&mut self, addr: u32, len: u8, v: u32) -> Result<u8, Bad>
+        requires part { IsTrue (is_part len) }
+        requires in_ram { IsTrue (is_in_ram (ram_of self.old) addr len) }
+        requires aligned { addr % len ≡ 0 }
+
+        // The answer is good with at most one toggled bit, and bad with two.
+        ensures good { IsOk result ↔ (length (cell_at self.old addr).toggled < 2) }
+        ensures bad { IsErr result ↔ (length (cell_at self.old addr).toggled ≡ 2) }
+
+        ensures syndrome { IfOk result (λ syn. syn ≡ syndrome_of (cell_at self.old addr)) }
+        ensures written { IsOk result → self.new ≡ slice_set self.old (place_of addr) (fresh (merged (cell_at self.old addr).value addr len v)) }
+        ensures bytes { IsOk result → HasMergedBytes (cell_at self.old addr).value addr len v (cell_at self.new addr).value }
+        ensures bad_word { IfErr result (λ bad. bad ≡ record { addr = word_address addr; syn = syndrome_of (cell_at self.old addr) }) }
+        ensures unchanged { IsErr result → self.new ≡ self.old }
+    {
+        let place = place_of(addr);
+        match self.cells[place].read() {
+            Ok(got) => {
+                self.cells[place] = Cell::new(merged(got.value, addr, len, v));
+                Ok(got.syn)
+            }
+            Err(syn) => Err(Bad {
+                addr: word_address(addr),
+                syn,
+            }),
+        }
     }
 
     /// Turns a bit of the cell of the word at an address of RAM, a multiple of 4: bits 0 to 31 are the word, 32 to 38 check

@@ -1,6 +1,7 @@
 ghost use Rattle.std.specs.Prelude.{◌≡◌, ◌%◌, IsTrue, IfOk};
 ghost use Rattle.lf_model.specs.Start.{is_in_ram};
 ghost use Rattle.ft_memory.specs.Memory.{ram_of, IsInRam};
+ghost use Rattle.ft_memory.specs.Parts.{is_part};
 
 use crate::answer::{Flipped, Got};
 use crate::ram::Memory;
@@ -21,6 +22,10 @@ enum Step {
     /// The word at an address reads bad, with this syndrome.
     ReadsBad(u32, u8),
     Write(u32, u32),
+    /// A byte or half is written at an address, whose word reads with this syndrome.
+    Part(u32, u8, u32, u8),
+    /// The word of the address is bad, with this syndrome.
+    PartOfBad(u32, u8, u32, u8),
     Flip(u32, u8, Flipped),
 }
 
@@ -65,6 +70,25 @@ const WRITES: [Step; 8] = [
     Step::Reads(0x4000_0004, 0x0000_1122, 0),
 ];
 
+/// Bytes and halves written: to a word with one turned bit, to one with two, to clean ones.
+const PARTS: [Step; 15] = [
+    Step::Flip(0x4000_0020, 17, Flipped::Applied),
+    Step::Part(0x4000_0021, 1, 0xffff_ff5a, 0x0b),
+    Step::Reads(0x4000_0020, 0x005a_0000, 0),
+    Step::Part(0x4000_0022, 2, 0x1234, 0),
+    Step::Reads(0x4000_0020, 0x005a_1234, 0),
+    Step::Part(0x4000_0020, 2, 0xcafe, 0),
+    Step::Part(0x4000_0023, 1, 0x77, 0),
+    Step::Reads(0x4000_0020, 0xcafe_1277, 0),
+    Step::Flip(0x4000_0024, 0, Flipped::Applied),
+    Step::Flip(0x4000_0024, 1, Flipped::Applied),
+    Step::PartOfBad(0x4000_0026, 1, 0x11, 0x05),
+    Step::PartOfBad(0x4000_0026, 2, 0x1111, 0x05),
+    Step::ReadsBad(0x4000_0024, 0x05),
+    Step::Reads(0x4000_0028, 0, 0),
+    Step::Flip(0x4000_0024, 0, Flipped::Declined(2)),
+];
+
 fn segment(alloc: Global, addr: u32, bytes: &[u8], size: u32) -> Result<Segment, AllocError>
     ensures addr { IfOk result (λ segment. segment.addr ≡ addr) }
     ensures size { IfOk result (λ segment. segment.size ≡ size) }
@@ -105,6 +129,16 @@ fn expect_word(rt: &impl Abort, addr: u32)
     assert!(rt; addr % 4 == 0);
 }
 
+fn expect_part(rt: &impl Abort, addr: u32, len: u8)
+    ensures part { IsTrue (is_part len) }
+    ensures in_ram { IsTrue (is_in_ram RAM addr len) }
+    ensures aligned { addr % len ≡ 0 }
+{
+    assert!(rt; len == 1 || len == 2);
+    assert!(rt; is_in_ram(RAM, addr, len));
+    assert!(rt; addr % u32::from(len) == 0);
+}
+
 fn make(rt: &impl Abort, memory: &mut Memory, step: Step)
     requires { ram_of memory.old ≡ RAM }
     ensures { ram_of memory.new ≡ RAM }
@@ -123,6 +157,19 @@ fn make(rt: &impl Abort, memory: &mut Memory, step: Step)
         Step::Write(addr, value) => {
             expect_word(rt, addr);
             memory.write_word(addr, value);
+        }
+        Step::Part(addr, len, value, syn) => {
+            expect_part(rt, addr, len);
+            let read = memory.write_part(addr, len, value).ok();
+            assert_eq!(rt; read, Some(syn), "part at {addr}");
+        }
+        Step::PartOfBad(addr, len, value, syn) => {
+            expect_part(rt, addr, len);
+            let bad = memory.write_part(addr, len, value).err();
+            assert_eq!(rt;
+                bad.map(|bad| (bad.addr, bad.syn)),
+                Some((addr / 4 * 4, syn))
+            );
         }
         Step::Flip(addr, bit, answer) => {
             expect_word(rt, addr);
@@ -156,5 +203,6 @@ fn words_flips_and_writes(rt: HostRuntime) -> Result<(), Fail> {
     assert_eq!(rt; line.bad, bad);
 
     make_all(&rt, &mut memory, &WRITES);
+    make_all(&rt, &mut memory, &PARTS);
     Ok(())
 }
