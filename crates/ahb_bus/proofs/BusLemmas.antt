@@ -1,18 +1,17 @@
 -- The bus before its first turn, as a turn begins, and after the transfer of a turn.
-use Rattle.std.proofs.Common.{◌≡◌, ℕ, zero, suc, ◌+◌, ◌-◌, ◌*◌, ◌/◌, ◌%◌, ◌^◌, ◌<◌, ◌≤◌, Bool, true, false, cond, nat_eq, List, [], ◌∷◌, ◌++◌, length, map, take, drop, slice_get, slice_index, slice_index_or, slice_set, Option, Some, None, IsTrue, vec_len, vec_capacity, refl, sym, ap, ◌∙◌, subst, arith}
-use Rattle.std.specs.Prelude.{All, option_map}
+use Rattle.std.proofs.Common.{◌≡◌, ℕ, zero, suc, ◌+◌, ◌*◌, ◌%◌, ◌<◌, Bool, true, false, cond, nat_eq, List, [], ◌∷◌, length, map, take, drop, slice_get, slice_index, slice_index_or, Some, None, IsTrue, refl, sym, ap, ◌∙◌, subst, arith}
+use Rattle.std.specs.Prelude.{option_map}
 use Rattle.std.proofs.lemmas.Bool.{ne_eqb, eq-eqb}
 use Rattle.std.proofs.lemmas.Bool.Decides.{nat_tests}
-use Rattle.std.proofs.lemmas.List.{length-map, length-set, length-take, length-drop, length-append, get_or-take, get_or-drop, map-set}
+use Rattle.std.proofs.lemmas.List.{length-map, length-take, length-drop, get_or-take, get_or-drop}
 use Rattle.std.proofs.lemmas.Option.{slice_get-map, slice_get-get_or}
 use Rattle.lf_num.specs.Columns.{columns_sum}
-use Rattle.lf_model.specs.Flips.{Moment, is_bad_word, syndrome, word_budget}
-use Rattle.lf_model.specs.Fates.{happened, is_applied}
+use Rattle.lf_model.specs.Flips.{Moment, is_bad_word}
 use Rattle.lf_model.specs.Start.{ram_first, is_in_ram}
 use Rattle.lf_model.specs.declared.bus.Line.{Line}
 use Rattle.ft_memory.specs.Cells.{CellState, fresh, is_bad, shown_word, syndrome_of}
 use Rattle.ft_memory.specs.Memory.{ram_of, place_of, cell_at, line_at}
-use Rattle.ahb_bus.specs.BusState.{BusState, ram_size, word_of, met, shown, ShowsWord, ShowsLine}
+use Rattle.ahb_bus.specs.BusState.{BusState, word_of, met, shown, ShowsWord, ShowsLine}
 use Rattle.ahb_bus.specs.Cells.{values, IsCellOf, AreCellsOf}
 
 -- the word of a cell

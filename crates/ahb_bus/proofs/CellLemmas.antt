@@ -1,16 +1,16 @@
 -- A cell follows the history of its word.
-use Rattle.std.proofs.Common.{◌≡◌, ℕ, zero, suc, ◌+◌, ◌-◌, ◌*◌, ◌/◌, ◌%◌, ◌<◌, ◌≤◌, Bool, true, false, not, ◌||◌, cond, nat_eq, nat_lt, List, [], ◌∷◌, length, slice_index_or, slice_set, IsTrue, refl, sym, ap, ◌∙◌, subst, zero-add, arith, inl, inr}
-use Rattle.std.specs.Prelude.{filter, map}
+use Rattle.std.proofs.Common.{◌≡◌, ℕ, zero, suc, ◌+◌, ◌-◌, ◌*◌, ◌%◌, ◌<◌, ◌≤◌, Bool, true, false, not, ◌||◌, cond, nat_eq, nat_lt, List, [], ◌∷◌, length, slice_index_or, slice_set, IsTrue, refl, sym, ap, ◌∙◌, subst, zero-add, arith, inl, inr}
+use Rattle.std.specs.Prelude.{filter}
 use Rattle.std.specs.List.{count_by}
 use Rattle.std.proofs.lemmas.Bool.{cases_eq, ne_eqb, eq-eqb, lt-ltb, le-ltb}
 use Rattle.std.proofs.lemmas.Bool.Decides.{nat_tests}
 use Rattle.std.proofs.lemmas.List.{get_or-set_same, get_or-set_other, length-set, map-set, set-get_or}
 use Rattle.std.proofs.lemmas.List.Sums.{sum_by-cons}
-use Rattle.lf_model.specs.Flips.{How, Moment, Standing, struck, standing, places_below, is_turned, turned, turned_bits, word_budget, word_bits}
+use Rattle.lf_model.specs.Flips.{How, Moment, Standing, struck, standing, places_below, is_turned, turned, word_budget, word_bits}
 use Rattle.lf_model.specs.Flips.Moment.{Struck, Written}
 use Rattle.lf_model.specs.Start.{ram_first, is_in_ram}
 use Rattle.ft_memory.specs.Toggling.{has_place, with_toggled}
-use Rattle.ft_memory.specs.Cells.{CellState, fresh, budget, FlipsCell}
+use Rattle.ft_memory.specs.Cells.{CellState, fresh, FlipsCell}
 use Rattle.ft_memory.specs.Memory.{ram_of, place_of, cell_at}
 use Rattle.ft_memory.specs.declared.answer.Flipped.{Flipped}
 use Rattle.ft_memory.specs.declared.answer.Flipped.TheVariants.{Applied, Declined}
@@ -19,6 +19,7 @@ use Rattle.ahb_bus.specs.Cells.{values, IsCellOf, AreCellsOf}
 use Rattle.ahb_bus.specs.Plan.{IsAimed}
 use Rattle.ahb_bus.specs.Striking.{struck_by}
 use Rattle.ahb_bus.specs.declared.plan.Strike.{Strike}
+use Rattle.ahb_bus.proofs.HistoryLemmas.{written_at}
 
 -- a place at or above the width is not among those that pass a test
 has_place-above : (width : ℕ) (p : ℕ → Bool) (place : ℕ) → width ≤ place → has_place (filter p (places_below width)) place ≡ false
@@ -152,6 +153,17 @@ place_address ram addr in_ram aligned = grind (arith, nat_tests)
 
 pub place_within : (cells : List CellState) (addr : ℕ) → IsTrue (is_in_ram (ram_of cells) addr 4) → addr % 4 ≡ 0 → place_of addr < length cells
 place_within cells addr in_ram aligned = grind (arith, nat_tests)
+
+-- cells after a word is written
+pub cells_written : (histories : ℕ → List Moment) (cells : List CellState) (at : ℕ) (how : How) (value : ℕ) → IsTrue (is_in_ram (ram_of cells) at 4) → at % 4 ≡ 0
+    → AreCellsOf histories cells → AreCellsOf (written_at at how histories) (slice_set cells (place_of at) (fresh value))
+cells_written histories cells at how value in_ram aligned are =
+    let address = place_address (ram_of cells) at in_ram aligned in
+    cells_set histories (written_at at how histories) cells (place_of at) (fresh value) are
+    (rw (address, eq-eqb at at refl) (cell_written how (histories at) value))
+    (λ other lt there.
+    ap (λ (b : Bool). cond b (Written how ∷ histories (ram_first + 4 * other)) (histories (ram_first + 4 * other)))
+    (ne_eqb (ram_first + 4 * other) at (λ e. there (omega (arith, e, address)))))
 
 -- cells after a strike
 pub cells_struck : (s : Strike) (count : ℕ) (histories : ℕ → List Moment) (cells new : List CellState) (answer : Flipped) → IsAimed (ram_of cells) count s

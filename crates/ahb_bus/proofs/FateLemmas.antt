@@ -1,5 +1,5 @@
 -- What fates tell, while flips strike and turns go on.
-use Rattle.std.proofs.Common.{◌≡◌, ℕ, ◌<◌, Bool, false, List, length, slice_index_or, slice_set, map, sym, ap, ◌∙◌, arith}
+use Rattle.std.proofs.Common.{◌≡◌, ℕ, Bool, false, List, slice_index_or, slice_set, map, sym, ap, ◌∙◌}
 use Rattle.std.proofs.lemmas.List.{map-set, set-get_or}
 use Rattle.lf_model.specs.FlipFates.{is_late, is_declined}
 use Rattle.lf_model.specs.declared.trace.Fate.{Fate}

@@ -1,10 +1,11 @@
 -- What holds of every bus goes on to hold, as a turn begins and as its transfer is made.
-use Rattle.std.proofs.Common.{◌≡◌, ℕ, ◌+◌, ◌-◌, ◌*◌, ◌/◌, ◌%◌, ◌^◌, ◌<◌, ◌≤◌, Bool, true, false, cond, nat_eq, nat_le, List, [], ◌∷◌, ◌++◌, length, slice_index_or, slice_set, Option, Some, None, IsTrue, Vec, Global, vec_len, vec_capacity, refl, sym, ap, ◌∙◌, subst, add-zero, arith}
+use Rattle.std.proofs.Common.{◌≡◌, ℕ, ◌+◌, ◌-◌, ◌*◌, ◌%◌, ◌^◌, ◌<◌, ◌≤◌, Bool, true, false, cond, nat_eq, nat_le, List, [], ◌∷◌, ◌++◌, length, slice_index_or, slice_set, Option, Some, None, IsTrue, Vec, Global, vec_len, vec_capacity, refl, sym, ap, ◌∙◌, subst, add-zero, arith}
 use Rattle.std.specs.Prelude.{All, filter}
 use Rattle.std.proofs.lemmas.Bool.{and_from, le-leb}
-use Rattle.std.proofs.lemmas.List.{length-map, length-append}
-use Rattle.lf_model.specs.Flips.{How, Moment, word_budget}
-use Rattle.lf_model.specs.Flips.Moment.{Written}
+use Rattle.std.proofs.lemmas.Bool.Decides.{nat_tests}
+use Rattle.std.proofs.lemmas.List.{length-map, length-append, length-set}
+use Rattle.lf_model.specs.Flips.{How, word_budget}
+use Rattle.lf_model.specs.Flips.How.{Whole}
 use Rattle.lf_model.specs.Fates.{happened, is_applied}
 use Rattle.lf_model.specs.Start.{ram_first, is_in_ram, word_at}
 use Rattle.lf_model.specs.declared.image.Image.{Image}
@@ -15,6 +16,7 @@ use Rattle.lf_model.specs.declared.trace.Fate.{Fate}
 use Rattle.lf_model.specs.declared.trace.Fate.TheVariants.{Late}
 use Rattle.ft_memory.specs.Cells.{CellState, fresh}
 use Rattle.ft_memory.specs.Memory.{ram_of, place_of, HoldsImage}
+use Rattle.ft_memory.specs.Parts.{word_address}
 use Rattle.ahb_bus.specs.BusState.{BusState, met, is_fill, after_turn, AimsInRam}
 use Rattle.ahb_bus.specs.Cells.{values, AreCellsOf}
 use Rattle.ahb_bus.specs.Inside.{seen, turns_struck, IsBus}
@@ -24,8 +26,8 @@ use Rattle.ahb_bus.specs.Telling.{TellSame, TellAll}
 use Rattle.ahb_bus.specs.declared.bus.Bus.TheInside.{Inside}
 use Rattle.ahb_bus.specs.declared.held.Held.{Held}
 use Rattle.ahb_bus.specs.declared.plan.Strike.{Strike}
-use Rattle.ahb_bus.proofs.CellLemmas.{cell_fresh, cell_written, cells_set, cells_same, place_address}
-use Rattle.ahb_bus.proofs.HistoryLemmas.{met-after, met-filled, met-stored, met-kept, met-begun, run_begun}
+use Rattle.ahb_bus.proofs.CellLemmas.{cell_fresh, cells_written, cells_same}
+use Rattle.ahb_bus.proofs.HistoryLemmas.{written_at, touches-one, met-after, met-filled, met-written, met-refused, met-doubled, met-begun, run_begun}
 use Rattle.ahb_bus.proofs.TellLemmas.{tells_later, tells_settled, tells_turn, tells_first}
 
 -- the address of a place of RAM
@@ -92,18 +94,60 @@ bus_after old memory held fates transfers made is started noted room ram cells s
           (tells_settled old.flips.value (met (seen old)) (turns_struck old) 0 old.fates.items fates.items same is.fates));
     }
 
--- cells after a fill, and after the store of a word
+-- the word that an address of RAM lies in
+pub in_ram_above : (count addr len : ℕ) → IsTrue (is_in_ram (4 * count) addr len) → ram_first ≤ addr
+in_ram_above count addr len in_ram = grind (arith, nat_tests)
+
+pub word_aligned : (addr : ℕ) → word_address addr % 4 ≡ 0
+word_aligned addr = omega arith
+
+pub place_of-word : (addr : ℕ) → ram_first ≤ addr → place_of (word_address addr) ≡ place_of addr
+place_of-word addr above = omega arith
+
+pub word_in_ram : (count addr len : ℕ) → 0 < len → addr % 4 + len ≤ 4 → IsTrue (is_in_ram (4 * count) addr len) → IsTrue (is_in_ram (4 * count) (word_address addr) 4)
+word_in_ram count addr len some within in_ram = grind (arith, nat_tests)
+
+first_in_ram : (count addr : ℕ) → IsTrue (is_in_ram (4 * count) addr 8) → IsTrue (is_in_ram (4 * count) addr 4)
+first_in_ram count addr in_ram = grind (arith, nat_tests)
+
+second_in_ram : (count addr : ℕ) → IsTrue (is_in_ram (4 * count) addr 8) → IsTrue (is_in_ram (4 * count) (addr + 4) 4)
+second_in_ram count addr in_ram = grind (arith, nat_tests)
+
+-- cells after a fill, and after stores and atomics
 pub cells_filled : (bus : BusState) (made : Transfer) (cells : List CellState) → bus.begun ≡ true → is_fill made.kind ≡ true → AreCellsOf (met bus) cells → AreCellsOf (met (after_turn bus made)) cells
 cells_filled bus made cells started fills are = cells_same (met bus) (met (after_turn bus made)) cells (λ place lt. met-filled bus made (ram_first + 4 * place) started fills) are
 
-pub cells_stored : (bus : BusState) (made : Transfer) (cells : List CellState) (value : ℕ) → bus.begun ≡ true → made.kind ≡ Store → made.len ≡ 4
-    → IsTrue (is_in_ram (ram_of cells) made.addr 4) → made.addr % 4 ≡ 0 → AreCellsOf (met bus) cells
+pub cells_rewritten : (bus : BusState) (made : Transfer) (cells : List CellState) (how : How) (value : ℕ) → bus.begun ≡ true
+    → 0 < made.len → made.addr % 4 + made.len ≤ 4 → IsTrue (is_in_ram (ram_of cells) made.addr made.len)
+    → write_by made.kind made.len (met bus (word_address made.addr)) ≡ Some how → AreCellsOf (met bus) cells
     → AreCellsOf (met (after_turn bus made)) (slice_set cells (place_of made.addr) (fresh value))
-cells_stored bus made cells value started kind len in_ram aligned are =
-    let address : ram_first + 4 * place_of made.addr ≡ made.addr = place_address (ram_of cells) made.addr in_ram aligned in
-    cells_set (met bus) (met (after_turn bus made)) cells (place_of made.addr) (fresh value) are
-    (rw (met-stored bus made (ram_first + 4 * place_of made.addr) started kind len (sym address)) (cell_written _ _ value))
-    (λ other lt apart. met-kept bus made (ram_first + 4 * other) started len aligned (place_aligned other) (λ e. apart (omega (arith, e, address))))
+cells_rewritten bus made cells how value started some within in_ram writes are =
+    let word : ℕ = word_address made.addr in
+    let word_in_ram : IsTrue (is_in_ram (ram_of cells) word 4) = word_in_ram (length cells) made.addr made.len some within in_ram in
+    let P : ℕ → Type 0 = λ place. AreCellsOf (met (after_turn bus made)) (slice_set cells place (fresh value)) in
+    subst P (place_of-word made.addr (in_ram_above (length cells) made.addr made.len in_ram))
+    (cells_same (written_at word how (met bus)) (met (after_turn bus made)) (slice_set cells (place_of word) (fresh value))
+    (λ place lt. met-written bus made word how (ram_first + 4 * place) started (touches-one made (ram_first + 4 * place) some within (place_aligned place)) writes)
+    (cells_written (met bus) cells word how value word_in_ram (word_aligned made.addr) are))
+
+pub cells_refused : (bus : BusState) (made : Transfer) (cells : List CellState) → bus.begun ≡ true → 0 < made.len → made.addr % 4 + made.len ≤ 4
+    → write_by made.kind made.len (met bus (word_address made.addr)) ≡ None → AreCellsOf (met bus) cells → AreCellsOf (met (after_turn bus made)) cells
+cells_refused bus made cells started some within writes are =
+    cells_same (met bus) (met (after_turn bus made)) cells
+    (λ place lt. met-refused bus made (word_address made.addr) (ram_first + 4 * place) started (touches-one made (ram_first + 4 * place) some within (place_aligned place)) writes)
+    are
+
+pub cells_doubled : (bus : BusState) (made : Transfer) (cells : List CellState) (high low : ℕ) → bus.begun ≡ true → made.kind ≡ Store → made.len ≡ 8
+    → IsTrue (is_in_ram (ram_of cells) made.addr 8) → made.addr % 4 ≡ 0 → AreCellsOf (met bus) cells
+    → AreCellsOf (met (after_turn bus made)) (slice_set (slice_set cells (place_of made.addr) (fresh high)) (place_of (made.addr + 4)) (fresh low))
+cells_doubled bus made cells high low started kind two in_ram aligned are =
+    let first : List CellState = slice_set cells (place_of made.addr) (fresh high) in
+    let size : ram_of first ≡ ram_of cells = ap (λ (n : ℕ). 4 * n) (length-set cells (place_of made.addr) (fresh high)) in
+    let P : ℕ → Type 0 = λ ram. IsTrue (is_in_ram ram (made.addr + 4) 4) in
+    cells_same (written_at (made.addr + 4) Whole (written_at made.addr Whole (met bus))) (met (after_turn bus made)) (slice_set first (place_of (made.addr + 4)) (fresh low))
+    (λ place lt. met-doubled bus made (ram_first + 4 * place) started kind two aligned (place_aligned place))
+    (cells_written (written_at made.addr Whole (met bus)) first (made.addr + 4) Whole low (subst P (sym size) (second_in_ram (length cells) made.addr in_ram)) (omega (arith, aligned))
+    (cells_written (met bus) cells made.addr Whole high (first_in_ram (length cells) made.addr in_ram) aligned are))
 
 -- what is seen after a transfer
 pub seen_after : (old : Inside) (memory : List CellState) (held : Vec Held Global) (fates : Vec Fate Global) (transfers : Vec Transfer Global) (made : Transfer) (words : List ℕ)

@@ -6,3 +6,4 @@ pub mod TellLemmas
 pub mod StrikeLemmas
 pub mod BusLemmas
 pub mod InsideLemmas
+pub mod StoreLemmas

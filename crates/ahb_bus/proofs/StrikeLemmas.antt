@@ -1,5 +1,5 @@
 -- A run of strikes with one more at its end.
-use Rattle.std.proofs.Common.{◌≡◌, ℕ, List, [], ◌∷◌, ◌++◌, length, refl, ap, ◌∙◌, sym}
+use Rattle.std.proofs.Common.{◌≡◌, ℕ, List, [], ◌∷◌, ◌++◌, refl}
 use Rattle.lf_model.specs.Flips.{Moment}
 use Rattle.lf_model.specs.declared.trace.Fate.{Fate}
 use Rattle.ahb_bus.specs.Striking.{struck_by, after_run, marked_one, marked}

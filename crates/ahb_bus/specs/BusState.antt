@@ -1,13 +1,12 @@
 -- The bus as its users see it: what its script, its transfers and its words are, and what a turn makes of them.
-use Rattle.std.specs.Prelude.{◌≡◌, ℕ, ◌+◌, ◌-◌, ◌*◌, ◌^◌, ◌%◌, ◌<◌, Bool, true, false, List, [], ◌∷◌, ◌++◌, length, fold, Option, Some, None, slice_get, slice_index, slice_set, if◌then◌else◌, IsTrue, IfSome}
+use Rattle.std.specs.Prelude.{◌≡◌, ℕ, ◌+◌, ◌-◌, ◌*◌, ◌^◌, ◌%◌, ◌<◌, Bool, true, false, List, [], ◌∷◌, ◌++◌, length, fold, Option, Some, None, slice_get, slice_index, slice_set, if◌then◌else◌, IsTrue}
 use Rattle.lf_model.specs.Flips.{Moment, is_bad_word, syndrome}
 use Rattle.lf_model.specs.Start.{is_in_ram, word_at}
 use Rattle.lf_model.specs.WordHistory.{begun, history}
 use Rattle.lf_model.specs.declared.bus.Line.{Line}
-use Rattle.lf_model.specs.declared.bus.Pending.{Pending}
 use Rattle.lf_model.specs.declared.bus.Transfer.{Transfer}
 use Rattle.lf_model.specs.declared.bus.TurnKind.{TurnKind}
-use Rattle.lf_model.specs.declared.bus.TurnKind.TheVariants.{Fetch, Load, Store}
+use Rattle.lf_model.specs.declared.bus.TurnKind.TheVariants.{Fetch, Load}
 use Rattle.lf_model.specs.declared.bus.Why.{Why}
 use Rattle.lf_model.specs.declared.config.Config.{Config}
 use Rattle.lf_model.specs.declared.flip.Flip.{Flip}
@@ -32,7 +31,7 @@ pub record BusState : Type 0 where
 abbrev pub ram_size : BusState → ℕ
 ram_size bus = 4 * length bus.words
 
--- the number last written to the word at an address
+-- the number last written to the word that an address lies in
 abbrev pub word_of : BusState → ℕ → ℕ
 word_of bus addr = slice_index bus.words (place_of addr)
 
@@ -81,21 +80,6 @@ fill_made bus who kind why line way syndromes = record {
   len = 0;
 }
 
--- the transfer that the store of a word is
-abbrev pub store_made : BusState → Who → Why → ℕ → Transfer
-store_made bus who why addr = record {
-  syn = 0;
-  turn = length bus.transfers;
-  master = who.master;
-  step = who.step;
-  addr = addr;
-  kind = Store;
-  why = why;
-  way = 0;
-  words = 0;
-  len = 4;
-}
-
 -- the bus after the transfer of a turn
 abbrev pub after_turn : BusState → Transfer → BusState
 after_turn bus made = record bus { begun = false; transfers = bus.transfers ++ made ∷ []; room = bus.room - 1 }
@@ -104,7 +88,7 @@ after_turn bus made = record bus { begun = false; transfers = bus.transfers ++ m
 abbrev pub without_length : Transfer → Transfer
 without_length made = record made { len = 0 }
 
--- the bus with a word written
+-- the bus with the word written that an address lies in
 abbrev pub with_word : BusState → ℕ → ℕ → BusState
 with_word bus addr value = record bus { words = slice_set bus.words (place_of addr) value }
 

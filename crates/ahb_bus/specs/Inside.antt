@@ -1,5 +1,5 @@
 -- What the bus keeps, and what of it its users see.
-use Rattle.std.specs.Prelude.{◌≡◌, ℕ, ◌+◌, ◌-◌, ◌^◌, ◌<◌, ◌≤◌, Bool, true, List, length, All, if◌then◌else◌}
+use Rattle.std.specs.Prelude.{ℕ, ◌+◌, ◌-◌, ◌^◌, ◌<◌, ◌≤◌, length, All, if◌then◌else◌}
 use Rattle.std.specs.Prelude.{vec_len, vec_capacity}
 use Rattle.ft_memory.specs.Memory.{ram_of}
 use Rattle.ahb_bus.specs.declared.bus.Bus.TheInside.{Inside}

@@ -1,4 +1,5 @@
 pub mod BusState
+pub mod Storing
 pub mod Plan
 pub mod Cells
 pub mod Striking

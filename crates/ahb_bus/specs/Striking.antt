@@ -1,5 +1,5 @@
 -- What strikes do, one after another, to the histories of words and to the fates of flips.
-use Rattle.std.specs.Prelude.{ℕ, ◌==◌, nat_lt, List, [], ◌∷◌, length, fold, slice_set, if◌then◌else◌}
+use Rattle.std.specs.Prelude.{ℕ, ◌==◌, nat_lt, List, [], ◌∷◌, length, slice_set, if◌then◌else◌}
 use Rattle.lf_model.specs.Flips.{Moment, standing, word_budget}
 use Rattle.lf_model.specs.Flips.Moment.{Struck}
 use Rattle.lf_model.specs.declared.trace.Fate.{Fate}

@@ -1,15 +1,20 @@
-ghost use Rattle.std.specs.Prelude.{◌≡◌, ◌+◌, ◌*◌, ◌%◌, ◌^◌, ◌<◌, ◌≤◌, [], ◌∷◌, ◌++◌, true, false, length, map, All, IsTrue, IsOk, IfOk, vec_len, vec_capacity};
+ghost use Rattle.std.specs.Prelude.{◌≡◌, ◌+◌, ◌*◌, ◌%◌, ◌^◌, ◌<◌, ◌≤◌, ◌↔◌, [], ◌∷◌, ◌++◌, true, false, length, map, All, IsTrue, IsOk, IsErr, IfOk, IfErr, vec_len};
 ghost use Rattle.lf_model.specs.Start.{is_in_ram};
 ghost use Rattle.lf_model.specs.FlipFates.{TellsFates};
 ghost use Rattle.ft_memory.specs.Memory.{IsInRam};
-ghost use Rattle.ahb_bus.specs.BusState.{ram_size, shown, packed, is_fill, fill_made, store_made, after_turn, with_word, without_length, most_transfers, ShowsLine, AimsInRam, StartsWith};
-ghost use Rattle.ahb_bus.specs.Telling.{TellSame};
+ghost use Rattle.lf_model.specs.declared.bus.TurnKind.TheVariants.{Store};
+ghost use Rattle.ft_memory.specs.Parts.{word_address};
+ghost use Rattle.ahb_bus.specs.BusState.{ram_size, word_of, shown, is_fill, fill_made, after_turn, with_word, without_length, most_transfers, ShowsLine, AimsInRam, StartsWith};
+ghost use Rattle.ahb_bus.specs.Storing.{is_store_length, is_atomic_length, is_rewrite, meets_bad, syndrome_at, is_lost, with_stored, write_made, rewrite_made, store_made, atomic_made};
 
 use crate::held::{Held, held_of, release};
 use crate::plan::{Strike, plan_of, run_end};
 use crate::record::{BusRecord, Who};
+use crate::replace::replace;
+use crate::stop::stop_all;
 use crate::strike::strike_all;
-use ft_memory::Memory;
+use crate::transfer::{note, packed_syndromes, with_read, without_lengths, write_of};
+use ft_memory::{Got, Memory};
 use lf_model::bus::{Bad, Line, Pending, Transfer, TurnKind, Why};
 use lf_model::config::Config;
 use lf_model::flip::Flips;
@@ -76,40 +81,6 @@ fn all_late(alloc: Global, count: usize) -> Result<Vec<Fate>, AllocError>
         fates.push(Fate::Late)?;
     }
     Ok(fates)
-}
-
-/// Puts a transfer at the end, in the room that was reserved.
-fn note(transfers: &mut Vec<Transfer>, made: Transfer)
-    requires { vec_len transfers.old < vec_capacity transfers.old }
-    ensures noted { transfers.new.items ≡ transfers.old.items ++ made ∷ [] }
-    ensures reserved { vec_capacity transfers.old ≤ vec_capacity transfers.new }
-{
-    let _ = transfers.push(made);
-}
-
-/// The syndromes of a line as one number, the first in the top byte.
-fn packed_syndromes(line: &Line) -> u64
-    ensures { result ≡ packed line.now.syn }
-{
-    u64::from_be_bytes(line.syn)
-}
-
-/// Takes the length from each transfer.
-fn without_lengths(transfers: &mut Vec<Transfer>)
-    ensures { transfers.new.items ≡ map without_length transfers.old.items }
-{
-    for t in transfers.iter_mut() {
-        t.len = 0;
-    }
-}
-
-/// The dormant flips that stand in the words that stops name become stopped.
-fn stop_all(held: &mut Vec<Held>, fates: &mut Vec<Fate>, named: &[Word2])
-    ensures { TellSame fates.old.items fates.new.items }
-{
-    for word in named {
-        release(held, fates, word.addr, Fate::Stopped);
-    }
 }
 
 impl Bus {
@@ -195,38 +166,124 @@ impl Bus {
         read
     }
 
-    /// Makes the turn's transfer the store of a word, at a multiple of 4 in RAM. The turn ends. For now each store is of a
-    /// whole word, which is written without a read.
+    /// Makes the turn's transfer the store of `p`: of 1, 2, 4 or 8 bytes, at a multiple of their number in RAM. The turn ends.
+    /// Whole words are written without a read. A byte or half is merged into its word, which is read and put right first.
     ///
     /// # Errors
     ///
-    /// None.
+    /// The store is of a byte or half, and its word reads bad: two different bits of it are turned. Then memory is as before;
+    /// the error has the word's address.
     pub fn store(&mut self, w: Who, why: Why, p: &Pending) -> Result<(), Bad>
         requires begun { self.old.begun ≡ true }
-        requires word { p.now.len ≡ 4 }
+        requires length { IsTrue (is_store_length p.now.len) }
+        requires in_ram { IsTrue (is_in_ram (ram_size self.old) p.now.addr p.now.len) }
+        requires aligned { p.now.addr % p.now.len ≡ 0 }
+        requires value { p.now.value < 256 ^ p.now.len }
+        ensures lost { IsErr result ↔ IsTrue (is_lost self.old p.now.addr p.now.len) }
+        ensures bad_word { IfErr result (λ bad. bad ≡ record { addr = word_address p.now.addr; syn = syndrome_at self.old p.now.addr }) }
+        ensures made { IsOk result → self.new ≡ after_turn (with_stored self.old p.now.addr p.now.len p.now.value) (store_made self.old w why p.now.addr p.now.len) }
+        ensures unwritten { IsErr result → self.new ≡ after_turn self.old (store_made self.old w why p.now.addr p.now.len) }
+    {
+        if p.len < 4 {
+            self.rewrite(w, TurnKind::Store, why, p)?;
+            return Ok(());
+        }
+        if p.len == 4 {
+            self.store_word(w, why, p);
+        } else {
+            self.store_double(w, why, p);
+        }
+        Ok(())
+    }
+
+    /// Makes the turn's transfer an atomic: the word that `p.addr` lies in is read and put right, and gets the number of `p` in
+    /// its place, a byte (LDSTUB) or the whole word (SWAP). Gives the word that was read. The turn ends.
+    ///
+    /// # Errors
+    ///
+    /// The word reads bad: two different bits of it are turned. Then memory is as before; the error has the word's address.
+    pub fn atomic(&mut self, w: Who, p: &Pending) -> Result<u32, Bad>
+        requires begun { self.old.begun ≡ true }
+        requires length { IsTrue (is_atomic_length p.now.len) }
+        requires in_ram { IsTrue (is_in_ram (ram_size self.old) p.now.addr p.now.len) }
+        requires aligned { p.now.addr % p.now.len ≡ 0 }
+        requires value { p.now.value < 256 ^ p.now.len }
+        ensures bad { IsErr result ↔ IsTrue (meets_bad self.old p.now.addr) }
+        ensures read { IfOk result (λ old. old ≡ word_of self.old p.now.addr) }
+        ensures bad_word { IfErr result (λ bad. bad ≡ record { addr = word_address p.now.addr; syn = syndrome_at self.old p.now.addr }) }
+        ensures made { IsOk result → self.new ≡ after_turn (with_stored self.old p.now.addr p.now.len p.now.value) (atomic_made self.old w p.now.addr p.now.len) }
+        ensures unwritten { IsErr result → self.new ≡ after_turn self.old (atomic_made self.old w p.now.addr p.now.len) }
+    {
+        let got = self.rewrite(w, TurnKind::Atomic, Why::None, p)?;
+        Ok(got.value)
+    }
+
+    /// The store of a byte or half, or an atomic: its word is read first.
+    fn rewrite(&mut self, w: Who, kind: TurnKind, why: Why, p: &Pending) -> Result<Got, Bad>
+        requires begun { self.old.begun ≡ true }
+        requires kind { IsTrue (is_rewrite kind p.now.len) }
+        requires in_ram { IsTrue (is_in_ram (ram_size self.old) p.now.addr p.now.len) }
+        requires aligned { p.now.addr % p.now.len ≡ 0 }
+        requires value { p.now.value < 2 ^ 32 }
+        ensures bad { IsErr result ↔ IsTrue (meets_bad self.old p.now.addr) }
+        ensures read { IfOk result (λ got. got.value ≡ word_of self.old p.now.addr) }
+        ensures bad_word { IfErr result (λ bad. bad ≡ record { addr = word_address p.now.addr; syn = syndrome_at self.old p.now.addr }) }
+        ensures made { IsOk result → self.new ≡ after_turn (with_stored self.old p.now.addr p.now.len p.now.value) (rewrite_made self.old w kind why p.now.addr p.now.len) }
+        ensures unwritten { IsErr result → self.new ≡ after_turn self.old (rewrite_made self.old w kind why p.now.addr p.now.len) }
+    {
+        let turn = self.transfers.len() as u32;
+        let made = write_of(turn, w, kind, why, p);
+        match replace(&mut self.memory, p) {
+            Ok(got) => {
+                let word = p.addr - p.addr % 4;
+                release(&mut self.held, &mut self.fates, word, Fate::Repaired);
+                note(&mut self.transfers, with_read(made, got.syn));
+                self.begun = false;
+                Ok(got)
+            }
+            Err(bad) => {
+                note(&mut self.transfers, with_read(made, bad.syn));
+                self.begun = false;
+                Err(bad)
+            }
+        }
+    }
+
+    /// The store of a word.
+    fn store_word(&mut self, w: Who, why: Why, p: &Pending)
+        requires begun { self.old.begun ≡ true }
+        requires length { p.now.len ≡ 4 }
         requires in_ram { IsTrue (is_in_ram (ram_size self.old) p.now.addr 4) }
         requires aligned { p.now.addr % 4 ≡ 0 }
         requires value { p.now.value < 2 ^ 32 }
-        ensures written { IsOk result }
-        ensures made { self.new ≡ after_turn (with_word self.old p.now.addr p.now.value) (store_made self.old w why p.now.addr) }
+        ensures { self.new ≡ after_turn (with_word self.old p.now.addr p.now.value) (write_made self.old w Store why p.now.addr 4) }
     {
+        let turn = self.transfers.len() as u32;
         self.memory.write_word(p.addr, p.value as u32);
         release(&mut self.held, &mut self.fates, p.addr, Fate::Overwritten);
-        let made = Transfer {
-            syn: 0,
-            turn: self.transfers.len() as u32,
-            master: w.master,
-            step: w.step,
-            addr: p.addr,
-            kind: TurnKind::Store,
-            why,
-            way: 0,
-            words: 0,
-            len: 4,
-        };
+        let made = write_of(turn, w, TurnKind::Store, why, p);
         note(&mut self.transfers, made);
         self.begun = false;
-        Ok(())
+    }
+
+    /// The store of two words.
+    fn store_double(&mut self, w: Who, why: Why, p: &Pending)
+        requires begun { self.old.begun ≡ true }
+        requires length { p.now.len ≡ 8 }
+        requires in_ram { IsTrue (is_in_ram (ram_size self.old) p.now.addr 8) }
+        requires aligned { p.now.addr % 8 ≡ 0 }
+        requires value { p.now.value < 2 ^ 64 }
+        ensures { self.new ≡ after_turn (with_stored self.old p.now.addr 8 p.now.value) (write_made self.old w Store why p.now.addr 8) }
+    {
+        let turn = self.transfers.len() as u32;
+        let low = p.addr + 4;
+        self.memory.write_word(p.addr, (p.value >> 32) as u32);
+        self.memory.write_word(low, (p.value % (1 << 32)) as u32);
+        release(&mut self.held, &mut self.fates, p.addr, Fate::Overwritten);
+        release(&mut self.held, &mut self.fates, low, Fate::Overwritten);
+        let made = write_of(turn, w, TurnKind::Store, why, p);
+        note(&mut self.transfers, made);
+        self.begun = false;
     }
 
     /// The word at an address of RAM, a multiple of 4; `None` exactly where it reads bad.
@@ -241,8 +298,8 @@ impl Bus {
         }
     }
 
-    /// Ends the run. `named` has the address of each word that a stop names, with the number of its transfer as the value:
-    /// the dormant flips that stand in it become stopped.
+    /// Ends the run. `named` has the address of each word that a stop names, with the number of its transfer as the value: it
+    /// read bad there. The two flips that stood in it then are stopped, also where it was overwritten later.
     pub fn finish(self, named: &[Word2]) -> BusRecord
         requires none_begun { self.begun ≡ false }
         ensures transfers { result.transfers ≡ map without_length self.transfers }
@@ -250,16 +307,16 @@ impl Bus {
     {
         let Bus {
             memory: _,
-            plan: _,
+            plan,
             next: _,
-            mut held,
+            held: _,
             mut fates,
             mut transfers,
             most: _,
             begun: _,
             flips: _,
         } = self;
-        stop_all(&mut held, &mut fates, named);
+        stop_all(&plan, &mut fates, named);
         without_lengths(&mut transfers);
         BusRecord {
             transfers: Listed::from_vec(transfers),

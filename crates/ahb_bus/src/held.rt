@@ -1,4 +1,4 @@
-ghost use Rattle.std.specs.Prelude.{◌≡◌, ◌<◌, length, false, IfSome};
+ghost use Rattle.std.specs.Prelude.{◌≡◌, ◌<◌, length, false, IfSome, IsTrue};
 ghost use Rattle.lf_model.specs.FlipFates.{is_late, is_declined};
 ghost use Rattle.ahb_bus.specs.Telling.{TellSame};
 
@@ -49,14 +49,22 @@ pub fn hold(held: &mut Vec<Held>, word: u32, number: usize) {
     }
 }
 
-/// Gives a flip that is dormant another fate.
-fn settle(fates: &mut Vec<Fate>, number: Option<usize>, fate: Fate)
+/// A flip with this fate stands in its word, or was overwritten.
+fn is_open(fate: Fate) -> bool
+    ensures not_late { IsTrue result → is_late fate ≡ false }
+    ensures not_declined { IsTrue result → is_declined fate ≡ false }
+{
+    matches!(fate, Fate::Dormant | Fate::Overwritten)
+}
+
+/// Gives another fate to a flip that is dormant or overwritten.
+pub fn settle(fates: &mut Vec<Fate>, number: Option<usize>, fate: Fate)
     requires not_late { is_late fate ≡ false }
     requires not_declined { is_declined fate ≡ false }
     ensures { TellSame fates.old.items fates.new.items }
 {
     if let Some(number) = number {
-        if number < fates.len() && fates[number] == Fate::Dormant {
+        if number < fates.len() && is_open(fates[number]) {
             fates[number] = fate;
         }
     }

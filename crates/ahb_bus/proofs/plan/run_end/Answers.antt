@@ -1,6 +1,4 @@
-use Rattle.std.proofs.Common.{◌≡◌, ◌<◌, ℕ, ◌≤◌, length, arith}
-use Rattle.std.specs.Prelude.{slice_index_or}
-use Rattle.ahb_bus.specs.declared.plan.Strike.{Strike}
+use Rattle.std.proofs.Common.{arith}
 use Rattle.ahb_bus.proofs.PlanLemmas.{run_between, behind_end, cursor_end}
 use Rattle.ahb_bus.proofs.plan.run_end.Goals as goal
 

@@ -1,5 +1,5 @@
 use Rattle.ahb_bus.specs.Telling.{TellSame}
-use Rattle.ahb_bus.proofs.bus.stop_all.Given as goal
+use Rattle.ahb_bus.proofs.stop.stop_all.Given as goal
 
 abbrev pub invariant-loop-word : goal.invariant-loop-word
 invariant-loop-word l = TellSame l.initial.fates.items l.fates.items

@@ -2,9 +2,8 @@ use Rattle.std.proofs.Common.{◌≡◌, ℕ, ◌+◌, List, [], ◌∷◌, ◌+
 use Rattle.std.specs.Prelude.{slice_index_or}
 use Rattle.std.proofs.lemmas.List.{take_more}
 use Rattle.lf_model.specs.Flips.{Moment}
-use Rattle.lf_model.specs.declared.trace.Fate.{Fate}
 use Rattle.ahb_bus.specs.Cells.{AreCellsOf}
-use Rattle.ahb_bus.specs.Striking.{struck_by, after_run, marked_one, marked}
+use Rattle.ahb_bus.specs.Striking.{after_run, marked_one, marked}
 use Rattle.ahb_bus.specs.declared.plan.Strike.{Strike}
 use Rattle.ahb_bus.proofs.StrikeLemmas.{after_run-more, marked-more}
 use Rattle.ahb_bus.proofs.strike.strike_all.Goals as goal

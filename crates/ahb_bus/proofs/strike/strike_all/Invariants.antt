@@ -1,6 +1,5 @@
 use Rattle.std.proofs.Common.{◌≡◌, ℕ, List, take, vec_len}
 use Rattle.lf_model.specs.Flips.{Moment}
-use Rattle.ft_memory.specs.Memory.{ram_of}
 use Rattle.ahb_bus.specs.Cells.{values, AreCellsOf}
 use Rattle.ahb_bus.specs.Striking.{after_run, marked}
 use Rattle.ahb_bus.proofs.strike.strike_all.Given as goal

@@ -1,4 +1,4 @@
-use Rattle.std.proofs.Common.{◌≡◌, length, slice_index_or, arith}
+use Rattle.std.proofs.Common.{slice_index_or, arith}
 use Rattle.std.proofs.lemmas.Grind.{common_steps}
 use Rattle.std.proofs.lemmas.List.{get_or_default, take_all, drop_all}
 use Rattle.std.proofs.lemmas.List.Edits.{map_over_more}
@@ -6,7 +6,7 @@ use Rattle.lf_model.specs.declared.bus.Transfer.{Transfer}
 use Rattle.lf_model.specs.declared.bus.TurnKind.TheVariants.{Fetch}
 use Rattle.lf_model.specs.declared.bus.Why.{Why}
 use Rattle.ahb_bus.specs.BusState.{without_length}
-use Rattle.ahb_bus.proofs.bus.without_lengths.Goals as goal
+use Rattle.ahb_bus.proofs.transfer.without_lengths.Goals as goal
 
 pub loop-t-preserved : goal.loop-t-preserved
 loop-t-preserved c =

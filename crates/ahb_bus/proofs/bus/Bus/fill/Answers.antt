@@ -1,5 +1,5 @@
-use Rattle.std.proofs.Common.{◌≡◌, refl, sym, ap, ◌∙◌, true, rules, arith}
-use Rattle.ahb_bus.specs.BusState.{BusState, met, fill_made}
+use Rattle.std.proofs.Common.{◌≡◌, refl, ap, ◌∙◌, true}
+use Rattle.ahb_bus.specs.BusState.{BusState, fill_made}
 use Rattle.ahb_bus.specs.Inside.{seen}
 use Rattle.ahb_bus.proofs.BusLemmas.{in_ram_cells, shows_line}
 use Rattle.ahb_bus.proofs.InsideLemmas.{bus_after, cells_filled}

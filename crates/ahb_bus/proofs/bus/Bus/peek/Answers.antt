@@ -1,4 +1,4 @@
-use Rattle.std.proofs.Common.{◌≡◌, refl, sym, ◌∙◌}
+use Rattle.std.proofs.Common.{refl, sym, ◌∙◌}
 use Rattle.ft_memory.specs.Memory.{place_of, cell_at}
 use Rattle.ahb_bus.specs.BusState.{met}
 use Rattle.ahb_bus.specs.Inside.{seen}
