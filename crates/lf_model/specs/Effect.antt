@@ -1,5 +1,5 @@
 -- The effect of one instruction on its core, without error traps (SPARC V8, appendix B, instruction definitions).
-use Rattle.std.specs.Prelude.{ℕ, ◌==◌, List, [], ◌∷◌, Option, None, if◌then◌else◌}
+use Rattle.std.specs.Prelude.{ℕ, ◌==◌, List, [], ◌∷◌, Option, Some, None, if◌then◌else◌}
 use Rattle.lf_num.specs.Arithmetic.{word_sum}
 use Rattle.lf_model.specs.State.{State, cell, register, operand, with_register, advanced}
 use Rattle.lf_model.specs.declared.image.Image.{Image}
@@ -49,6 +49,17 @@ changes registers cells next = record {
   barrier = None;
   writes = cells;
   next = λ _. next;
+}
+
+-- this memory operation, and no trap and no barrier: the next state is by the number that the operation reads
+abbrev pub operates : List ℕ → Access → List ℕ → (ℕ → State) → Effect
+operates registers access cells next = record {
+  reads = registers;
+  trap = None;
+  access = Some access;
+  barrier = None;
+  writes = cells;
+  next = next;
 }
 
 -- nothing but PC and nPC changes

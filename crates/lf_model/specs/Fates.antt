@@ -2,7 +2,7 @@
 -- fates is this machine's own.
 use Rattle.std.specs.Prelude.{ℕ, ◌==◌, ◌&&◌, ◌||◌, nat_lt, not, Bool, true, false, List, [], ◌∷◌, length, if◌then◌else◌}
 use Rattle.std.specs.List.{list_any}
-use Rattle.lf_model.specs.Flips.{How, Moment, Standing, standing}
+use Rattle.lf_model.specs.Flips.{How, Moment, standing}
 use Rattle.lf_model.specs.Flips.How.{Whole}
 use Rattle.lf_model.specs.Flips.Moment.{Struck, Written, Found, Named}
 use Rattle.lf_model.specs.declared.trace.Fate.{Fate}

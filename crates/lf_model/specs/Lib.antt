@@ -8,10 +8,12 @@ pub mod Traps
 pub mod Conditions
 pub mod Calculation
 pub mod Branches
+pub mod Windows
 pub mod StateRegisters
 pub mod Memory
+pub mod Alternate
+pub mod OrdinaryTraps
 pub mod Effects
-pub mod Built
 pub mod Run
 pub mod Places
 pub mod Order

@@ -1,14 +1,29 @@
--- Loads, stores and barriers (SPARC V8, appendix B, load, store, store barrier and flush instructions). Where a load or a
--- store traps, and the output word, are this machine's own.
-use Rattle.std.specs.Prelude.{ℕ, ◌%◌, ◌==◌, ◌∷◌, ◌++◌, [], Bool, false, not, ◌&&◌, ◌||◌, List, Option, Some, None, if◌then◌else◌}
+-- Loads, stores, atomics and barriers (SPARC V8, appendix B, load, store, atomic load-store unsigned byte, SWAP, store
+-- barrier and flush instructions). Where an access traps, and the output word, are this machine's own.
+use Rattle.std.specs.Prelude.{ℕ, ◌+◌, ◌*◌, ◌/◌, ◌%◌, ◌^◌, ◌==◌, ◌∷◌, ◌++◌, [], Bool, not, ◌&&◌, ◌||◌, List, Some, None, if◌then◌else◌}
+use Rattle.lf_num.specs.Bits.{sign_extended}
 use Rattle.lf_model.specs.Start.{output_word, is_in_ram, touches_text}
 use Rattle.lf_model.specs.State.{State, register, with_register, advanced}
-use Rattle.lf_model.specs.Effect.{Site, Effect, cell_written, sum_of_operands, changes}
+use Rattle.lf_model.specs.Effect.{Site, Effect, cell_written, changes, operates}
 use Rattle.lf_model.specs.declared.bus.Why.{Why}
-use Rattle.lf_model.specs.declared.bus.OpKind.TheVariants.{Load, Store}
+use Rattle.lf_model.specs.declared.bus.OpKind.TheVariants.{Load, Store, Atomic}
 use Rattle.lf_model.specs.declared.instruction.MemName.{MemName}
-use Rattle.lf_model.specs.declared.instruction.MemName.TheVariants.{Ld, St}
-use Rattle.lf_model.specs.declared.instruction.Src.{Src}
+use Rattle.lf_model.specs.declared.instruction.MemName.TheVariants.{Ld, Ldub, Lduh, Ldd, St, Stb, Sth, Std, Ldsb, Ldsh, Ldstub, Swap}
+
+-- the size of an access in bytes
+abbrev pub size_of : MemName → ℕ
+size_of Ldub = 1
+size_of Ldsb = 1
+size_of Stb = 1
+size_of Ldstub = 1
+size_of Lduh = 2
+size_of Ldsh = 2
+size_of Sth = 2
+size_of Ld = 4
+size_of St = 4
+size_of Swap = 4
+size_of Ldd = 8
+size_of Std = 8
 
 -- ---- the traps of an address
 
@@ -20,56 +35,85 @@ load_refused site addr len = not (is_in_ram site.ram addr len)
 abbrev pub store_refused : Site → ℕ → ℕ → Bool
 store_refused site addr len = touches_text site.image.text addr len || not (is_in_ram site.ram addr len)
 
--- the address is no multiple of the length in bytes
+-- an atomic is a load and a store
+abbrev pub atomic_refused : Site → ℕ → ℕ → Bool
+atomic_refused site addr len = load_refused site addr len || store_refused site addr len
+
+-- the address is no multiple of the size
 abbrev pub access_misaligned : MemName → ℕ → Bool
-access_misaligned Ld addr = not (addr % 4 == 0)
-access_misaligned St addr = not (addr % 4 == 0)
-access_misaligned _ addr = false
+access_misaligned name addr = not (addr % size_of name == 0)
 
--- LD or ST may not have this address; ST may write the output word, too
+-- the access may not have this address; ST may write the output word, too
 abbrev pub access_refused : Site → MemName → ℕ → Bool
-access_refused site Ld addr = load_refused site addr 4
 access_refused site St addr = not (addr == output_word) && store_refused site addr 4
-access_refused site _ addr = false
+access_refused site Stb addr = store_refused site addr 1
+access_refused site Sth addr = store_refused site addr 2
+access_refused site Std addr = store_refused site addr 8
+access_refused site Ldstub addr = atomic_refused site addr 1
+access_refused site Swap addr = atomic_refused site addr 4
+access_refused site name addr = load_refused site addr (size_of name)
 
--- ---- loads and stores
+-- ---- loads
 
--- a load of len bytes, whose number goes to register rd
-abbrev pub load_effect : List ℕ → ℕ → ℕ → ℕ → State → Effect
-load_effect registers addr len rd s = record {
-  reads = registers;
-  trap = None;
-  access = Some (record { kind = Load; addr = addr; len = len; put = 0; rd = rd });
-  barrier = None;
-  writes = cell_written s rd;
-  next = λ got. advanced (with_register rd got s);
-}
+-- what a load puts into a register of the bytes that it reads: LDSB and LDSH extend their sign
+abbrev pub extended : MemName → ℕ → ℕ
+extended Ldsb got = sign_extended got 8
+extended Ldsh got = sign_extended got 16
+extended _ got = got
 
--- a store of len bytes
-abbrev pub store_effect : List ℕ → ℕ → ℕ → ℕ → State → Effect
-store_effect registers addr len value s = record {
-  reads = registers;
-  trap = None;
-  access = Some (record { kind = Store; addr = addr; len = len; put = value; rd = 0 });
-  barrier = None;
-  writes = [];
-  next = λ _. advanced s;
-}
+-- a load of one register
+abbrev pub load_effect : List ℕ → MemName → ℕ → ℕ → State → Effect
+load_effect registers name addr rd s =
+    operates registers (record { kind = Load; addr = addr; len = size_of name; put = 0; rd = rd })
+    (cell_written s rd) (λ got. advanced (with_register rd (extended name got) s))
+
+-- LDD: the first word goes to register rd, and the second to register rd + 1
+abbrev pub with_words : ℕ → ℕ → State → State
+with_words rd got s = with_register (rd + 1) (got % 2 ^ 32) (with_register rd (got / 2 ^ 32) s)
+
+abbrev pub load_double_effect : List ℕ → ℕ → ℕ → State → Effect
+load_double_effect registers addr rd s =
+    operates registers (record { kind = Load; addr = addr; len = 8; put = 0; rd = rd })
+    (cell_written s rd ++ cell_written s (rd + 1)) (λ got. advanced (with_words rd got s))
+
+-- ---- stores and atomics
+
+-- the number that is stored: the low byte, low half or word of register rd, or the words of registers rd and rd + 1;
+-- LDSTUB stores a byte of ones
+abbrev pub stored_number : MemName → ℕ → State → ℕ
+stored_number Stb rd s = register s rd % 2 ^ 8
+stored_number Sth rd s = register s rd % 2 ^ 16
+stored_number St rd s = register s rd
+stored_number Std rd s = register s rd * 2 ^ 32 + register s (rd + 1)
+stored_number Ldstub rd s = 0xff
+stored_number Swap rd s = register s rd
+stored_number _ rd s = 0
+
+abbrev pub store_effect : List ℕ → MemName → ℕ → ℕ → State → Effect
+store_effect registers name addr rd s =
+    operates registers (record { kind = Store; addr = addr; len = size_of name; put = stored_number name rd s; rd = 0 })
+    [] (λ _. advanced s)
 
 -- a word stored to the output word: its low byte goes to the output
 abbrev pub output_effect : List ℕ → ℕ → State → Effect
-output_effect registers value s = changes registers [] (advanced (record s { out = s.out ++ value % 256 ∷ [] }))
+output_effect registers rd s = changes registers [] (advanced (record s { out = s.out ++ register s rd % 256 ∷ [] }))
 
--- ST: a word goes to the output, or to an address in RAM
-abbrev pub word_effect : List ℕ → ℕ → ℕ → State → Effect
-word_effect registers addr value s =
-    if addr == output_word then output_effect registers value s else store_effect registers addr 4 value s
+-- LDSTUB and SWAP: register rd gets the old byte or word
+abbrev pub atomic_effect : List ℕ → MemName → ℕ → ℕ → State → Effect
+atomic_effect registers name addr rd s =
+    operates registers (record { kind = Atomic; addr = addr; len = size_of name; put = stored_number name rd s; rd = rd })
+    (cell_written s rd) (λ got. advanced (with_register rd got s))
 
--- a load or store, None where it is not built yet
-abbrev pub mem_effect : List ℕ → MemName → ℕ → ℕ → Src → State → Option Effect
-mem_effect registers Ld rd rs1 src s = Some (load_effect registers (sum_of_operands s rs1 src) 4 rd s)
-mem_effect registers St rd rs1 src s = Some (word_effect registers (sum_of_operands s rs1 src) (register s rd) s)
-mem_effect registers _ rd rs1 src s = None
+-- a load, store or atomic at an address
+abbrev pub mem_effect : List ℕ → MemName → ℕ → ℕ → State → Effect
+mem_effect registers Ldd addr rd s = load_double_effect registers addr rd s
+mem_effect registers St addr rd s = if addr == output_word then output_effect registers rd s else store_effect registers St addr rd s
+mem_effect registers Stb addr rd s = store_effect registers Stb addr rd s
+mem_effect registers Sth addr rd s = store_effect registers Sth addr rd s
+mem_effect registers Std addr rd s = store_effect registers Std addr rd s
+mem_effect registers Ldstub addr rd s = atomic_effect registers Ldstub addr rd s
+mem_effect registers Swap addr rd s = atomic_effect registers Swap addr rd s
+mem_effect registers name addr rd s = load_effect registers name addr rd s
 
 -- ---- barriers
 

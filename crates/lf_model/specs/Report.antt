@@ -5,7 +5,7 @@ use Rattle.lf_model.specs.Texts.{space, line_feed, number, hex, hex_field}
 use Rattle.lf_model.specs.declared.bus.OpKind.{OpKind}
 use Rattle.lf_model.specs.declared.bus.OpKind.TheVariants.{Load, Store, Atomic, Lost}
 use Rattle.lf_model.specs.declared.trace.CoreEnd.{CoreEnd}
-use Rattle.lf_model.specs.declared.trace.CoreEnd.TheVariants.{Halt, Stop, Limit, Unbuilt}
+use Rattle.lf_model.specs.declared.trace.CoreEnd.TheVariants.{Halt, Stop, Limit}
 use Rattle.lf_model.specs.declared.trace.CoreResult.{CoreResult}
 use Rattle.lf_model.specs.declared.trace.Four.{Four}
 use Rattle.lf_model.specs.declared.trace.Fate.{Fate}
@@ -25,7 +25,6 @@ end_text n steps (Halt tt_) = codes "halt " ++ (hex_field space 2 tt_ ++ (number
 end_text n steps (Stop tt_ place syn) = codes "stop " ++ (hex_field space 2 tt_ ++ (number space n ++ (number space steps
     ++ (number space place ++ hex_field line_feed 2 syn))))
 end_text n steps Limit = codes "limit " ++ (number space n ++ number line_feed steps)
-end_text n steps Unbuilt = codes "unbuilt " ++ (number space n ++ number line_feed steps)
 
 unfoldable pub end_line : ℕ → CoreResult → List ℕ
 end_line k r = codes "core " ++ (number space k ++ end_text r.n r.steps r.end)

@@ -3,13 +3,12 @@ use Rattle.std.specs.Prelude.{ℕ, ◌≡◌, ◌≤◌, ◌<◌, ◌+◌, ◌==
 use Rattle.lf_model.specs.Start.{initial_byte, number_at}
 use Rattle.lf_model.specs.State.{State, register, psr_of}
 use Rattle.lf_model.specs.Operation.{of_core, enters, made, is_lost}
-use Rattle.lf_model.specs.Run.{effect_at_pc}
 use Rattle.lf_model.specs.Places.{FailsNowhere}
 use Rattle.lf_model.specs.Value.{stored}
 use Rattle.lf_model.specs.Execution.{run_of_core}
 use Rattle.lf_model.specs.declared.bus.Transfer.{Transfer}
 use Rattle.lf_model.specs.declared.trace.CoreEnd.{CoreEnd}
-use Rattle.lf_model.specs.declared.trace.CoreEnd.TheVariants.{Halt, Stop, Limit, Unbuilt}
+use Rattle.lf_model.specs.declared.trace.CoreEnd.TheVariants.{Halt, Stop, Limit}
 use Rattle.lf_model.specs.declared.trace.CoreResult.{CoreResult}
 use Rattle.lf_model.specs.declared.trace.Op.{Op}
 use Rattle.lf_model.specs.declared.trace.Word2.{Word2}
@@ -21,29 +20,24 @@ abbrev pub halt_of : CoreEnd → Option ℕ
 halt_of (Halt tt_) = Some tt_
 halt_of (Stop tt_ place syn) = None
 halt_of Limit = None
-halt_of Unbuilt = None
 
--- the last step of some ends retires nothing and makes no transfer: it reads a bad register, or it meets an
--- instruction that is not built
+-- the last step of an end that read a bad register retires nothing and makes no transfer
 abbrev pub idle_steps : CoreEnd → ℕ
 idle_steps (Halt tt_) = 0
 idle_steps (Stop tt_ place syn) = if tt_ == 0x20 then 1 else 0
 idle_steps Limit = 0
-idle_steps Unbuilt = 1
 
--- the limit comes after all steps, and `unbuilt` at an instruction that is not built
-abbrev pub IsEnd : Setup → ℕ → State → ℕ → CoreEnd → Type 0
-IsEnd setup c s steps (Halt tt_) = ⊤
-IsEnd setup c s steps (Stop tt_ place syn) = ⊤
-IsEnd setup c s steps Limit = steps ≡ setup.config.steps
-IsEnd setup c s steps Unbuilt = effect_at_pc setup c s ≡ None
+-- the limit comes after all steps
+abbrev pub IsEnd : Setup → ℕ → CoreEnd → Type 0
+IsEnd setup steps (Halt tt_) = ⊤
+IsEnd setup steps (Stop tt_ place syn) = ⊤
+IsEnd setup steps Limit = steps ≡ setup.config.steps
 
 -- the end of a core whose part store met a bad word, by which stores are lost
 abbrev pub LosesStores : CoreEnd → Type 0
 LosesStores (Halt tt_) = ⊥
 LosesStores (Stop tt_ place syn) = tt_ ≡ 0x2B
 LosesStores Limit = ⊥
-LosesStores Unbuilt = ⊥
 
 -- the operation is a lost store of core c
 abbrev pub is_lost_by : ℕ → Op → Bool
@@ -68,7 +62,7 @@ pub record Shows (setup : Setup) (trace : Trace) (c : ℕ) (r : CoreResult) (s :
   pub npc : r.npc ≡ s.ctl.npc
   pub registers : ShowsRegisters s r.regs
   pub halt : s.halt ≡ halt_of r.end
-  pub ends : IsEnd setup c s r.steps r.end
+  pub ends : IsEnd setup r.steps r.end
   pub within : r.steps ≤ setup.config.steps
   pub bound : r.steps ≤ r.n + count_by (is_in_steps c r.steps) trace.transfers + idle_steps r.end
   pub lost : 0 < count_by (is_lost_by c) trace.order → LosesStores r.end

@@ -1,14 +1,14 @@
 -- The run of one core: n instructions from reset, each the image's word at PC, with the numbers that its
 -- loads and atomics read given as answers. Text is write-protected, so the word at PC is the image's. There is no
 -- cache, no store buffer and no bus in it.
-use Rattle.std.specs.Prelude.{ℕ, zero, suc, ◌∷◌, ◌++◌, [], List, length, Option, Some, None, option_map, option_and_then, is_some, if◌then◌else◌, slice_index, count_by}
+use Rattle.std.specs.Prelude.{ℕ, zero, suc, ◌∷◌, ◌++◌, [], List, length, Option, Some, None, option_and_then, is_some, if◌then◌else◌, slice_index, count_by}
 use Rattle.lf_model.specs.Start.{is_text_word, word_at}
 use Rattle.lf_model.specs.State.{State, reset}
 use Rattle.lf_model.specs.Operation.{kind_reads, entry_reads}
 use Rattle.lf_model.specs.Effect.{Site, Access, Effect}
 use Rattle.lf_model.specs.Traps.{fetch_trap}
 use Rattle.lf_model.specs.Effects.{effect}
-use Rattle.lf_model.specs.Built.{built}
+use Rattle.lf_model.specs.Instructions.{instruction_of}
 use Rattle.lf_model.specs.declared.bus.Entry.{Entry}
 use Rattle.lf_model.specs.declared.setup.Setup.{Setup}
 
@@ -42,21 +42,21 @@ answer_to answers ops (Some a) = if kind_reads a.kind then slice_index answers (
 abbrev pub site_of : Setup → ℕ → Site
 site_of setup core = record { core = core; image = setup.image; ram = setup.config.ram }
 
--- the effect of the instruction at PC, None where it is not built; a PC that is no text word traps
-unfoldable pub effect_at_pc : Setup → ℕ → State → Option Effect
+-- the effect of the instruction at PC; a PC that is no text word traps
+unfoldable pub effect_at_pc : Setup → ℕ → State → Effect
 effect_at_pc setup core s = if is_text_word setup.image.text s.ctl.pc
-    then option_and_then (effect (site_of setup core) s) (built (word_at setup.image s.ctl.pc))
-    else Some (fetch_trap s)
+    then effect (site_of setup core) s (instruction_of (word_at setup.image s.ctl.pc))
+    else fetch_trap s
 
 abbrev pub answered : ℕ → List ℕ → Run → Effect → Run
 answered core answers r e = performed core (answer_to answers r.ops e.access) e r
 
--- one more instruction, None where the core has halted or the instruction is not built
+-- one more instruction, None where the core has halted
 abbrev pub onward : Setup → ℕ → List ℕ → Run → Option Run
 onward setup core answers r = if is_some r.state.halt then None
-    else option_map (answered core answers r) (effect_at_pc setup core r.state)
+    else Some (answered core answers r (effect_at_pc setup core r.state))
 
--- n instructions from reset, None where the core does not come so far
+-- n instructions from reset, None where the core halts before
 unfoldable pub run : Setup → ℕ → List ℕ → ℕ → Option Run
 run setup core answers zero = Some (record { state = reset setup.image.entry core; ops = [] })
 run setup core answers (suc n) = option_and_then (onward setup core answers) (run setup core answers n)

@@ -18,7 +18,7 @@ use Rattle.lf_model.specs.declared.step.Look.TheVariants.{Hit, Miss}
 use Rattle.lf_model.specs.declared.step.RegBad.{RegBad}
 use Rattle.lf_model.specs.declared.step.Turn.TheVariants.{Load, Atomic, Drain}
 use Rattle.lf_model.specs.declared.step.Did.{Did}
-use Rattle.lf_model.specs.declared.step.Did.TheVariants.{Retired, Need, Halt, Stop, Unbuilt}
+use Rattle.lf_model.specs.declared.step.Did.TheVariants.{Retired, Need, Halt, Stop}
 
 -- what a core shows an instruction: where it runs, the value of each register cell, the output and the operations
 -- so far
@@ -127,9 +127,8 @@ first_row [] = None
 first_row (row ∷ rows) = option_or row (first_row rows)
 
 -- what an instruction comes to: the first row that holds, and else it retires
-abbrev pub came_to : Parts → State → Option Effect → Did
-came_to parts s None = Unbuilt
-came_to parts s (Some e) = unwrap_or (first_row (stop_row parts (first_bad parts s.ctl.cwp e.reads)
+abbrev pub came_to : Parts → State → Effect → Did
+came_to parts s e = unwrap_or (first_row (stop_row parts (first_bad parts s.ctl.cwp e.reads)
     ∷ trap_row parts s.ctl.et e.trap ∷ access_row parts e.access ∷ barrier_row parts e.barrier ∷ [])) Retired
 
 -- the number that the operation reads
@@ -143,12 +142,12 @@ answer_of parts (Some a) = if kind_reads a.kind then looked (parts.look a.addr a
 
 -- the run after it: the instruction is performed where it retires, and else all is as before. In error mode, too, the
 -- registers and the operations are as before, and the answer tells the trap type.
-abbrev pub run_after : ℕ → Parts → Did → Option Effect → Run → Run
-run_after core parts Retired (Some e) r = performed core (answer_of parts e.access) e r
+abbrev pub run_after : ℕ → Parts → Did → Effect → Run → Run
+run_after core parts Retired e r = performed core (answer_of parts e.access) e r
 run_after core parts _ e r = r
 
 -- what an instruction with this effect comes to and leaves
-pub record Does (core : ℕ) (parts : Parts) (e : Option Effect) (did : Did) (old new : Run) : Type 0 where
+pub record Does (core : ℕ) (parts : Parts) (e : Effect) (did : Did) (old new : Run) : Type 0 where
   pub answer : did ≡ came_to parts old.state e
   pub leaves : new ≡ run_after core parts did e old
 

@@ -1,10 +1,10 @@
 -- Why an error trap stops a core: as its last transfer met it, a word that the instruction wants had two of its bits
 -- turned. Which error trap an error gives is this machine's own.
-use Rattle.std.specs.Prelude.{ℕ, ◌≡◌, ◌≢◌, ◌+◌, ◌-◌, ◌*◌, ◌/◌, ◌%◌, ◌==◌, ◌&&◌, not, ⊤, true, false, Bool, List, [], ◌∷◌, map, filter, take, drop, find, Option, Some, None, IfSome, slice_get, option_and_then, if◌then◌else◌}
+use Rattle.std.specs.Prelude.{ℕ, ◌≡◌, ◌≢◌, ◌+◌, ◌-◌, ◌*◌, ◌/◌, ◌%◌, ◌&&◌, not, ⊤, true, false, Bool, List, [], ◌∷◌, map, filter, take, drop, find, Option, Some, None, IfSome, slice_get, option_and_then, if◌then◌else◌}
 use Rattle.std.specs.List.{AllByRecursion, list_any, range_with_len}
 use Rattle.std.specs.Option.{IsSomeAnd}
 use Rattle.lf_model.specs.Operation.{enters}
-use Rattle.lf_model.specs.Effect.{Access, Effect}
+use Rattle.lf_model.specs.Effect.{Access}
 use Rattle.lf_model.specs.Run.{effect_at_pc}
 use Rattle.lf_model.specs.Execution.{run_of_core}
 use Rattle.lf_model.specs.Places.{FailsNowhere}
@@ -18,7 +18,7 @@ use Rattle.lf_model.specs.declared.bus.TurnKind.{TurnKind}
 use Rattle.lf_model.specs.declared.bus.TurnKind.TheVariants.{Load, Atomic}
 use Rattle.lf_model.specs.declared.setup.Setup.{Setup}
 use Rattle.lf_model.specs.declared.trace.CoreEnd.{CoreEnd}
-use Rattle.lf_model.specs.declared.trace.CoreEnd.TheVariants.{Halt, Stop, Limit, Unbuilt}
+use Rattle.lf_model.specs.declared.trace.CoreEnd.TheVariants.{Stop}
 use Rattle.lf_model.specs.declared.trace.CoreResult.{CoreResult}
 use Rattle.lf_model.specs.declared.trace.Op.{Op}
 use Rattle.lf_model.specs.declared.trace.Trace.{Trace}
@@ -47,12 +47,9 @@ history_met setup trace turn word = begun setup.flips word turn (history setup.f
 abbrev pub wanted_words : Access → List ℕ
 wanted_words a = map (λ i. a.addr - a.addr % 4 + 4 * i) (range_with_len 0 ((a.len + 3) / 4))
 
-abbrev pub access_of : Effect → Option Access
-access_of e = e.access
-
 -- the memory operation of core c's instruction after n instructions, if it makes one
 abbrev pub access_after : Setup → Trace → ℕ → ℕ → Option Access
-access_after setup trace c n = option_and_then (λ q. option_and_then access_of (effect_at_pc setup c q.state)) (run_of_core setup trace c n)
+access_after setup trace c n = option_and_then (λ q. (effect_at_pc setup c q.state).access) (run_of_core setup trace c n)
 
 -- a fill of the data cache is for a load, and an atomic transfer for an atomic
 abbrev pub serves : TurnKind → OpKind → Bool

@@ -86,7 +86,6 @@ abbrev pub stops_at : ℕ → CoreEnd → Bool
 stops_at turn (ends.Halt tt_) = false
 stops_at turn (ends.Stop tt_ place syn) = place == turn && (tt_ == 0x09 || tt_ == 0x2B)
 stops_at turn ends.Limit = false
-stops_at turn ends.Unbuilt = false
 
 abbrev pub core_stops_at : ℕ → CoreResult → Bool
 core_stops_at turn r = stops_at turn r.end

@@ -1,5 +1,5 @@
 -- The history of a memory word: flips of the script strike it as turns of the bus begin, and transfers write it.
-use Rattle.std.specs.Prelude.{ℕ, ◌+◌, ◌==◌, ◌&&◌, nat_lt, not, Bool, List, [], ◌∷◌, length, Option, Some, None, fold, if◌then◌else◌}
+use Rattle.std.specs.Prelude.{ℕ, ◌+◌, ◌==◌, ◌&&◌, nat_lt, Bool, List, [], ◌∷◌, length, Option, Some, None, fold, if◌then◌else◌}
 use Rattle.std.specs.List.{list_any, filter_map, range_with_len, zip}
 use Rattle.lf_model.specs.Flips.{How, Moment, is_bad_word, is_fixed_word}
 use Rattle.lf_model.specs.Flips.How.{Whole, ByPartStore, ByAtomic, ByFix}

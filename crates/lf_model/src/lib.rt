@@ -20,3 +20,4 @@ pub mod step;
 #[cfg(test)]
 mod tests;
 pub mod trace;
+pub mod trap;

@@ -58,6 +58,4 @@ pub enum Did {
     Halt(u8),
     /// An error trap stopped the core: its type, the register cell or the transfer, and the syndrome.
     Stop { tt: u8, place: u32, syn: u8 },
-    /// The instruction is not built yet.
-    Unbuilt,
 }

@@ -50,8 +50,6 @@ pub enum CoreEnd {
     Stop { tt: u8, place: u32, syn: u8 },
     /// After its last step, with no other end, and with each waiting store drained.
     Limit,
-    /// At an instruction that is not built yet.
-    Unbuilt,
 }
 
 /// The counters of parity errors of a core's two caches, each of which stops at 3.
