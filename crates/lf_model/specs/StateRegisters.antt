@@ -6,6 +6,7 @@ use Rattle.std.specs.Int.{bit_at}
 use Rattle.lf_model.specs.Fields.{bits_of}
 use Rattle.lf_model.specs.State.{State, register, operand, advanced, psr_of}
 use Rattle.lf_model.specs.Effect.{Effect, changes, sets}
+use Rattle.lf_model.specs.declared.control.Ctl.{Ctl}
 use Rattle.lf_model.specs.declared.instruction.Src.{Src}
 use Rattle.lf_model.specs.declared.instruction.StateName.{StateName}
 use Rattle.lf_model.specs.declared.instruction.StateName.TheVariants.{Y, Psr, Wim, Tbr}
@@ -44,16 +45,14 @@ names_no_window Psr value = nat_lt 7 (bits_of value 4 0)
 names_no_window _ value = false
 
 -- the parts of PSR that WRPSR writes; impl and ver stay, and EC and EF stay 0
-abbrev pub with_psr : ℕ → State → State
-with_psr value s = record s {
-  ctl = record s.ctl {
-    icc = bits_of value 23 20;
-    pil = bits_of value 11 8;
-    s = bit_at value 7 == 1;
-    ps = bit_at value 6 == 1;
-    et = bit_at value 5 == 1;
-    cwp = bits_of value 4 0;
-  };
+abbrev pub psr_parts : ℕ → Ctl → Ctl
+psr_parts value c = record c {
+  icc = bits_of value 23 20;
+  pil = bits_of value 11 8;
+  s = bit_at value 7 == 1;
+  ps = bit_at value 6 == 1;
+  et = bit_at value 5 == 1;
+  cwp = bits_of value 4 0;
 }
 
 -- TBR gets another base address, bits 31 to 12; its trap type, bits 11 to 4, and its bits of 0 stay
@@ -63,7 +62,7 @@ with_base value s = record s { ctl = record s.ctl { tbr = bits_of value 31 12 * 
 -- a value in a state register; WIM has one bit for each of the 8 windows
 abbrev pub with_state : StateName → ℕ → State → State
 with_state Y value s = record s { y = value }
-with_state Psr value s = with_psr value s
+with_state Psr value s = record s { ctl = psr_parts value s.ctl }
 with_state Wim value s = record s { wim = bits_of value 7 0 }
 with_state Tbr value s = with_base value s
 

@@ -47,6 +47,23 @@ division_by_zero = 0x2a
 abbrev pub when : Bool → ℕ → Option ℕ
 when test tt_ = if test then Some tt_ else None
 
+-- no test holds
+abbrev pub no_checks : Checks
+no_checks = record {
+  fetch = false;
+  privileged = false;
+  illegal = false;
+  fp_off = false;
+  cp_off = false;
+  over = false;
+  under = false;
+  align = false;
+  access = false;
+  tag = false;
+  zero = false;
+  ticc = None;
+}
+
 -- the ordinary traps in their order, the one that is taken before all others first; Ticc gives its trap type itself
 abbrev pub traps_in_order : Checks → List (Option ℕ)
 traps_in_order c =

@@ -1,2 +1,5 @@
+mod CheckLemmas
 mod CodeLemmas
-mod StoreLemmas
+mod SizeLemmas
+mod LoadLemmas
+mod TrapLemmas

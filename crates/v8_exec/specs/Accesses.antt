@@ -1,16 +1,66 @@
--- What a store comes to at an address, with the traps of the address in order.
-use Rattle.std.specs.Prelude.{ℕ, ◌∷◌, [], List, Option}
+-- What loads, stores and atomics need of the fields of their instruction, read from its registers, and ask of the bus.
+use Rattle.std.specs.Prelude.{ℕ, ◌≡◌, ◌+◌, ◌*◌, ◌^◌, ◌<◌, ⊤, ◌++◌, List, Some, None, Result, Ok, Err, false}
+use Rattle.lf_model.specs.Start.{touches_text}
 use Rattle.lf_model.specs.State.{State}
-use Rattle.lf_model.specs.Effect.{Site, Effect}
-use Rattle.lf_model.specs.Traps.{when, first_trap, unless_trap}
-use Rattle.lf_model.specs.Memory.{access_misaligned, access_refused, word_effect}
+use Rattle.lf_model.specs.Instructions.{operand_registers, stored_registers}
+use Rattle.lf_model.specs.Effect.{Site, Access, sum_of_operands}
+use Rattle.lf_model.specs.Memory.{stored_number}
+use Rattle.lf_model.specs.Step.{Seen, Parts, first_bad, access_row, looked, recorded}
+use Rattle.lf_model.specs.declared.bus.OpKind.TheVariants as kinds
 use Rattle.lf_model.specs.declared.instruction.MemName.{MemName}
-use Rattle.lf_model.specs.declared.instruction.MemName.TheVariants.{St}
+use Rattle.lf_model.specs.declared.instruction.MemName.TheVariants.{Ldd, Std}
+use Rattle.lf_model.specs.declared.instruction.Src.{Src}
+use Rattle.lf_model.specs.declared.step.Did.{Did}
+use Rattle.lf_model.specs.declared.step.Did.TheVariants.{Need}
+use Rattle.lf_model.specs.declared.step.RegBad.{RegBad}
+use Rattle.lf_model.specs.declared.step.Turn.TheVariants.{Load, Atomic}
+use Rattle.v8_exec.specs.Reading.{IsAccess}
+use Rattle.v8_exec.specs.declared.operands.Request.{Request}
 
-abbrev pub access_trap : Site → MemName → ℕ → Option ℕ
-access_trap site name addr =
-    first_trap (when (access_misaligned name addr) 0x07 ∷ when (access_refused site name addr) 0x09 ∷ [])
+-- these registers are read, and make this number, or the first that reads bad is told
+abbrev pub ReadsNumber : Parts → State → List ℕ → ℕ → Result ℕ RegBad → Type 0
+ReadsNumber parts s registers number (Ok value) = (value ≡ number) × (first_bad parts s.ctl.cwp registers ≡ None)
+ReadsNumber parts s registers number (Err bad) = first_bad parts s.ctl.cwp registers ≡ Some bad
 
--- ST of a word to an address, when these registers were read
-abbrev pub put_word : Site → List ℕ → ℕ → ℕ → State → Effect
-put_word site registers addr value s = unless_trap (access_trap site St addr) s (word_effect registers addr value s)
+-- an access reads its operands and then what it stores
+abbrev pub ReadsRequest : Parts → State → MemName → ℕ → ℕ → Src → Result Request RegBad → Type 0
+ReadsRequest parts s name rd rs1 src (Ok x) = (x.addr ≡ sum_of_operands s rs1 src) × (x.value ≡ stored_number name rd s)
+    × (first_bad parts s.ctl.cwp (operand_registers rs1 src ++ stored_registers name rd) ≡ None)
+ReadsRequest parts s name rd rs1 src (Err bad) =
+    first_bad parts s.ctl.cwp (operand_registers rs1 src ++ stored_registers name rd) ≡ Some bad
+
+-- the operation of a load
+abbrev pub load_access : ℕ → ℕ → ℕ → Access
+load_access addr len rd = record { kind = kinds.Load; addr = addr; len = len; put = 0; rd = rd }
+
+-- a load reads these bytes, and is recorded
+pub record Reads (parts : Parts) (addr len : ℕ) (before after : Seen) (value : ℕ) : Type 0 where
+  pub read : looked (parts.look addr len) ≡ value
+  pub hit : (rd : ℕ) → access_row parts (Some (load_access addr len rd)) ≡ None
+  pub made : (rd : ℕ) → after ≡ recorded value (load_access addr len rd) before
+
+-- a turn is needed
+abbrev pub IsNeed : Did → Type 0
+IsNeed (Need turn) = ⊤
+IsNeed _ = ⊥
+
+-- a load comes to this, and leaves all as it was
+pub record Misses (parts : Parts) (addr len : ℕ) (before after : Seen) (did : Did) : Type 0 where
+  pub miss : (rd : ℕ) → access_row parts (Some (load_access addr len rd)) ≡ Some did
+  pub same : after ≡ before
+  pub need : IsNeed did
+
+abbrev pub Looks : Parts → ℕ → ℕ → Seen → Seen → Result ℕ Did → Type 0
+Looks parts addr len before after (Ok value) = Reads parts addr len before after value
+Looks parts addr len before after (Err did) = Misses parts addr len before after did
+
+-- the operation of LDSTUB or SWAP
+abbrev pub atomic_access : ℕ → ℕ → ℕ → ℕ → Access
+atomic_access addr len new rd = record { kind = kinds.Atomic; addr = addr; len = len; put = new; rd = rd }
+
+-- a turn on the bus that is asked for is of an access to RAM; an atomic changes no text, and has a number of so many bytes
+-- and a register
+abbrev pub Asks : Site → Did → Type 0
+Asks site (Need (Load addr len why)) = IsAccess site addr len
+Asks site (Need (Atomic addr len new rd)) = IsAccess site addr len × (touches_text site.image.text addr len ≡ false) × (new < 2 ^ (8 * len)) × (rd < 32)
+Asks site _ = ⊤

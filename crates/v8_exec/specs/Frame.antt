@@ -1,9 +1,12 @@
 -- What every instruction leaves as it was, and how it meets its effect.
-use Rattle.std.specs.Prelude.{ℕ, ◌≡◌, ◌≤◌, ◌+◌, length}
+use Rattle.std.specs.Prelude.{ℕ, ◌≡◌, ◌≤◌, ◌+◌, length, List, None, ⊤}
+use Rattle.lf_model.specs.Effect.{Effect}
 use Rattle.lf_model.specs.Effects.{effect}
-use Rattle.lf_model.specs.Step.{IsSound, Seen, Parts, state_of, run_seen, counted, Does}
+use Rattle.lf_model.specs.Step.{IsSound, Seen, Parts, state_of, run_seen, first_bad, counted, Does}
 use Rattle.lf_model.specs.declared.instruction.Instr.{Instr}
+use Rattle.lf_model.specs.declared.instruction.Instr.TheVariants.{Flush}
 use Rattle.lf_model.specs.declared.step.Did.{Did}
+use Rattle.lf_model.specs.declared.step.Did.TheVariants.{Retired}
 use Rattle.lf_model.specs.declared.control.Arch.{Arch}
 
 -- the bounds of the state registers, the core's number and the count of instructions, where it runs, and, but for
@@ -24,6 +27,16 @@ pub record Counts (old new : Arch) (before after : Seen) (spare left : ℕ) (did
   pub k : new.k + length before.ops ≡ old.k + length after.ops
   pub site : after.site ≡ before.site
   pub room : spare ≤ left + 1
+
+-- an instruction that read these registers, all of them good, comes to what this effect says
+abbrev pub Makes : (List ℕ → Effect) → Parts → Did → Arch → Arch → Seen → Seen → Type 0
+Makes made parts did old new before after = (registers : List ℕ) → first_bad parts old.ctl.cwp registers ≡ None
+    → Does before.site.core parts (made registers) did (run_seen old before) (run_seen new after)
+
+-- a FLUSH that retires leaves the caches empty
+abbrev pub Empties : Instr → Did → Type 0 → Type 0
+Empties (Flush rs1 src) Retired empty = empty
+Empties _ _ empty = ⊤
 
 -- an instruction comes to what its effect says, and leaves that
 abbrev pub Performs : Instr → Parts → Did → Arch → Arch → Seen → Seen → Type 0

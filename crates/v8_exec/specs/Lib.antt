@@ -2,3 +2,4 @@ pub mod Reading
 pub mod Calculating
 pub mod Accesses
 pub mod Frame
+pub mod Returning

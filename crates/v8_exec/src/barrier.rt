@@ -1,7 +1,7 @@
 ghost use Rattle.std.specs.Prelude.{◌<◌};
 ghost use Rattle.lf_model.specs.Step.{IsSound};
 ghost use Rattle.lf_model.specs.declared.instruction.Instr.TheVariants.{Stbar, Flush};
-ghost use Rattle.v8_exec.specs.Frame.{Keeps, Performs};
+ghost use Rattle.v8_exec.specs.Frame.{Empties, Keeps, Performs};
 ghost use Rattle.v8_exec.specs.Reading.{IsSource};
 
 use crate::operands::read_operands;
@@ -35,6 +35,7 @@ pub fn flush<P: Ports>(a: &mut Arch, rs1: u8, src: Src, p: &mut P) -> Did
     requires fields { IsSource src }
     ensures does { Performs (Flush rs1 src) (P.parts p.old) result a.old a.new (P.seen p.old) (P.seen p.new) }
     ensures keeps { Keeps a.old a.new (P.seen p.old) (P.seen p.new) (P.room p.old) (P.room p.new) }
+    ensures empties { Empties (Flush rs1 src) result (P.caches_empty p.new) }
 {
     if let Err(bad) = read_operands(a, rs1, src, p) {
         return trap::stop(bad, p);

@@ -1,4 +1,6 @@
-ghost use Rattle.std.specs.Prelude.{◌<◌, ◌^◌};
+ghost use Rattle.std.specs.Prelude.{◌≡◌, ◌<◌, ◌+◌, ◌%◌, ◌^◌};
+ghost use Rattle.lf_model.specs.Conditions.{condition_holds};
+ghost use Rattle.lf_model.specs.Traps.{when};
 ghost use Rattle.lf_model.specs.Step.{IsSound};
 ghost use Rattle.lf_model.specs.declared.instruction.Instr.TheVariants.{Call, Jmpl, Bicc, Ticc};
 ghost use Rattle.v8_exec.specs.Frame.{Keeps, Performs};
@@ -12,6 +14,8 @@ use crate::trap;
 use lf_model::control::Arch;
 use lf_model::instruction::Src;
 use lf_model::step::Did;
+use lf_model::trap::Checks;
+use v8_traps::first_trap;
 
 /// The register that CALL writes, %o7.
 const LINK: u8 = 15;
@@ -45,8 +49,12 @@ pub fn jump<P: Ports>(a: &mut Arch, rd: u8, rs1: u8, src: Src, p: &mut P) -> Did
         Ok(x) => x.a.wrapping_add(x.b),
         Err(bad) => return trap::stop(bad, p),
     };
-    if target % 4 != 0 {
-        return trap::take(a, trap::NOT_ALIGNED, p);
+    let checks = Checks {
+        align: target % 4 != 0,
+        ..Checks::default()
+    };
+    if let Some(tt) = first_trap(&checks) {
+        return trap::take(a, tt, p);
     }
     write_register(a, rd, a.ctl.pc, p);
     transfer(a, target);
@@ -77,6 +85,17 @@ pub fn branch<P: Ports>(a: &mut Arch, cond: u8, annul_bit: bool, disp22: u32, p:
     Did::Retired
 }
 
+/// The trap type of Ticc by the sum of its operands, where its condition holds.
+fn trap_type(cond: u8, icc: u8, sum: u32) -> Option<u8>
+    ensures { result ≡ when (condition_holds cond icc) (128 + sum % 128) }
+{
+    if holds(cond, icc) {
+        Some(128 + (sum % 128) as u8)
+    } else {
+        None
+    }
+}
+
 /// Ticc: where the condition holds a software trap, of type 80 to FF hex by the sum of the operands.
 #[tactic(auto, unfolding(lf_model::specs::Effects::effect))]
 pub fn software_trap<P: Ports>(a: &mut Arch, cond: u8, rs1: u8, src: Src, p: &mut P) -> Did
@@ -86,12 +105,16 @@ pub fn software_trap<P: Ports>(a: &mut Arch, cond: u8, rs1: u8, src: Src, p: &mu
     ensures does { Performs (Ticc cond rs1 src) (P.parts p.old) result a.old a.new (P.seen p.old) (P.seen p.new) }
     ensures keeps { Keeps a.old a.new (P.seen p.old) (P.seen p.new) (P.room p.old) (P.room p.new) }
 {
-    let number = match read_operands(a, rs1, src, p) {
-        Ok(x) => x.a.wrapping_add(x.b) % 128,
+    let sum = match read_operands(a, rs1, src, p) {
+        Ok(x) => x.a.wrapping_add(x.b),
         Err(bad) => return trap::stop(bad, p),
     };
-    if holds(cond, a.ctl.icc) {
-        return trap::take(a, 128 + number as u8, p);
+    let checks = Checks {
+        ticc: trap_type(cond, a.ctl.icc, sum),
+        ..Checks::default()
+    };
+    if let Some(tt) = first_trap(&checks) {
+        return trap::take(a, tt, p);
     }
     advance(a);
     Did::Retired

@@ -10,12 +10,7 @@ ghost use Rattle.v8_exec.specs.Calculating.{Calculates};
 
 use lf_model::instruction::CalcName;
 use v8_alu::{AluOp, alu};
-
-/// Trap type of a tagged instruction: `tag_overflow`.
-const TAG_OVERFLOW: u8 = 0x0a;
-
-/// Trap type of a division by 0: `division_by_zero`.
-const DIVISION_BY_ZERO: u8 = 0x2a;
+use v8_traps::{DIVISION_BY_ZERO, TAG_OVERFLOW};
 
 /// What an instruction calculates from: the values of its operands, icc and Y.
 #[derive(Clone, Copy)]

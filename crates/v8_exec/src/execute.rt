@@ -1,22 +1,20 @@
-ghost use Rattle.std.specs.Prelude.{◌≡◌, ◌<◌, ◌≤◌, ◌+◌, ◌^◌, Some, option_and_then};
-ghost use Rattle.lf_model.specs.Built.{built};
+ghost use Rattle.std.specs.Prelude.{◌≡◌, ◌<◌, ◌+◌, ◌^◌};
 ghost use Rattle.lf_model.specs.Effects.{effect};
+ghost use Rattle.lf_model.specs.Instructions.{instruction_of};
 ghost use Rattle.lf_model.specs.Traps.{fetch_trap};
 ghost use Rattle.lf_model.specs.Step.{IsSound, state_of, run_seen, counted, Does};
-ghost use Rattle.v8_exec.specs.Frame.{Keeps, Counts, Performs};
+ghost use Rattle.v8_exec.specs.Frame.{Keeps, Counts, Empties, Performs};
 ghost use Rattle.v8_exec.specs.Reading.{IsInstruction};
 
 use crate::ports::Ports;
-use crate::words::built_instruction;
-use crate::{barrier, branch, calculate, memory, refuse, state_register, trap};
+use crate::words::decoded;
+use crate::{barrier, branch, calculate, memory, refuse, state_register, trap, windows};
 use lf_model::control::Arch;
 use lf_model::instruction::Instr;
 use lf_model::step::Did;
+use v8_traps::INSTRUCTION_ACCESS_EXCEPTION;
 
-/// Trap type of a PC that is no text word: `instruction_access_exception`.
-const FETCH_ACCESS: u8 = 0x01;
-
-/// Makes an instruction's effect, where it is built.
+/// Makes an instruction's effect.
 #[tactic(auto, unfolding(lf_model::specs::Effects::effect))]
 fn perform<P: Ports>(a: &mut Arch, instr: Instr, p: &mut P) -> Did
     requires sound { IsSound a.old }
@@ -26,6 +24,7 @@ fn perform<P: Ports>(a: &mut Arch, instr: Instr, p: &mut P) -> Did
     requires room { 0 < P.room p.old }
     ensures does { Performs instr (P.parts p.old) result a.old a.new (P.seen p.old) (P.seen p.new) }
     ensures keeps { Keeps a.old a.new (P.seen p.old) (P.seen p.new) (P.room p.old) (P.room p.new) }
+    ensures empties { Empties instr result (P.caches_empty p.new) }
 {
     match instr {
         Instr::Illegal => refuse::illegal(a, p),
@@ -51,8 +50,16 @@ fn perform<P: Ports>(a: &mut Arch, instr: Instr, p: &mut P) -> Did
         Instr::WriteState { name, rs1, src } => state_register::write(a, name, rs1, src, p),
         Instr::WriteAsr { rd, rs1, src } => state_register::write_asr(a, rd, rs1, src, p),
         Instr::Mem { name, rd, rs1, src } => memory::access(a, name, rd, rs1, src, p),
-        Instr::Rett { .. } | Instr::Save { .. } | Instr::Restore { .. } | Instr::Alternate { .. } =>
-            Did::Unbuilt,
+        Instr::Alternate {
+            name,
+            rd,
+            rs1,
+            rs2,
+            asi,
+        } => memory::alternate(a, name, rd, rs1, rs2, asi, p),
+        Instr::Save { rd, rs1, src } => windows::save(a, rd, rs1, src, p),
+        Instr::Restore { rd, rs1, src } => windows::restore(a, rd, rs1, src, p),
+        Instr::Rett { rs1, src } => windows::return_from_trap(a, rs1, src, p),
     }
 }
 
@@ -74,13 +81,11 @@ pub fn exec<P: Ports>(a: &mut Arch, w: u32, p: &mut P) -> Did
     requires instructions { a.old.n + 1 < 2 ^ 32 }
     requires operations { a.old.k + 1 < 2 ^ 32 }
     requires room { 0 < P.room p.old }
-    ensures does { Does (P.seen p.old).site.core (P.parts p.old) (option_and_then (effect (P.seen p.old).site (state_of a.old (P.seen p.old))) (built w)) result (run_seen a.old (P.seen p.old)) (run_seen a.new (P.seen p.new)) }
+    ensures does { Does (P.seen p.old).site.core (P.parts p.old) (effect (P.seen p.old).site (state_of a.old (P.seen p.old)) (instruction_of w)) result (run_seen a.old (P.seen p.old)) (run_seen a.new (P.seen p.new)) }
     ensures counts { Counts a.old a.new (P.seen p.old) (P.seen p.new) (P.room p.old) (P.room p.new) result }
+    ensures empties { Empties (instruction_of w) result (P.caches_empty p.new) }
 {
-    let Some(instr) = built_instruction(w) else {
-        return Did::Unbuilt;
-    };
-    let did = perform(a, instr, p);
+    let did = perform(a, decoded(w), p);
     a.n += count(did);
     did
 }
@@ -89,10 +94,10 @@ pub fn exec<P: Ports>(a: &mut Arch, w: u32, p: &mut P) -> Did
 pub fn fetch_trap<P: Ports>(a: &mut Arch, p: &mut P) -> Did
     requires sound { IsSound a.old }
     requires instructions { a.old.n + 1 < 2 ^ 32 }
-    ensures does { Does (P.seen p.old).site.core (P.parts p.old) (Some (fetch_trap (state_of a.old (P.seen p.old)))) result (run_seen a.old (P.seen p.old)) (run_seen a.new (P.seen p.new)) }
+    ensures does { Does (P.seen p.old).site.core (P.parts p.old) (fetch_trap (state_of a.old (P.seen p.old))) result (run_seen a.old (P.seen p.old)) (run_seen a.new (P.seen p.new)) }
     ensures counts { Counts a.old a.new (P.seen p.old) (P.seen p.new) (P.room p.old) (P.room p.new) result }
 {
-    let did = trap::take_unread(a, FETCH_ACCESS, p);
+    let did = trap::take_unread(a, INSTRUCTION_ACCESS_EXCEPTION, p);
     a.n += count(did);
     did
 }

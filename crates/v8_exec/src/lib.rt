@@ -13,14 +13,16 @@ mod operands;
 mod ports;
 mod program_counter;
 mod refuse;
+mod retire;
 mod state_register;
 #[cfg(test)]
 mod tests;
 mod trap;
+mod windows;
 mod words;
 
 pub use execute::{exec, fetch_trap};
 pub use lf_model::control::{Arch, Ctl};
 pub use lf_model::step::{Did, Turn};
-pub use operands::cell;
 pub use ports::Ports;
+pub use v8_windows::cell;

@@ -1,103 +1,182 @@
-ghost use Rattle.std.specs.Prelude.{◌≡◌, ◌≢◌, ◌<◌, ◌+◌, ◌^◌, ℕ, List, Some, None};
-ghost use Rattle.lf_model.specs.Step.{IsSound, state_of, run_seen, first_bad, Does};
-ghost use Rattle.lf_model.specs.declared.instruction.Instr.TheVariants.{Mem};
-ghost use Rattle.lf_model.specs.declared.instruction.MemName.TheVariants.{Ld, St};
-ghost use Rattle.v8_exec.specs.Frame.{Keeps, Performs};
-ghost use Rattle.v8_exec.specs.Accesses.{access_trap, put_word};
-ghost use Rattle.v8_exec.specs.Reading.{IsSource, IsAccess};
+ghost use Rattle.std.specs.Prelude.{◌≡◌, ◌<◌, ◌≤◌, ◌+◌, ◌*◌, ◌/◌, ◌%◌, ◌^◌, IfOk, IfErr, IsTrue, false, true};
+ghost use Rattle.lf_model.specs.Start.{is_in_ram, touches_text};
+ghost use Rattle.lf_model.specs.Memory.{size_of, load_refused, store_refused, atomic_refused, access_misaligned, access_refused, extended, with_words, load_effect, load_double_effect, store_effect, output_effect, atomic_effect, stored_number, mem_effect};
+ghost use Rattle.lf_model.specs.State.{register};
+ghost use Rattle.lf_model.specs.Alternate.{is_plain_space, alternate_refused, control_effect};
+ghost use Rattle.lf_model.specs.Step.{IsSound, state_of};
+ghost use Rattle.lf_model.specs.declared.instruction.Instr.TheVariants.{Mem, Alternate};
+ghost use Rattle.v8_exec.specs.Frame.{Keeps, Makes, Performs};
+ghost use Rattle.v8_exec.specs.Accesses.{Looks};
+ghost use Rattle.v8_exec.specs.Reading.{IsSource, HasPair, IsAccess};
 
-use crate::operands::{read_operands, read_stored, write_register};
+use crate::operands::{Request, read_request, write_register};
 use crate::ports::Ports;
 use crate::program_counter::advance;
+use crate::retire::retire_with;
 use crate::trap;
 use lf_model::addresses::OUTPUT_WORD;
 use lf_model::bus::Why;
 use lf_model::control::Arch;
 use lf_model::instruction::{MemName, Src};
 use lf_model::step::{Did, Look, Turn};
+use lf_model::trap::Checks;
+use v8_traps::first_trap;
 
-/// Trap type of an address that may not be read or written so: `data_access_exception`.
-const DATA_ACCESS: u8 = 0x09;
+/// The address space of the system control registers.
+const SYSTEM_CONTROL: u8 = 0x02;
 
-/// The trap of LD at this address, which is to be a multiple of 4, and wholly in RAM.
-fn load_trap<P: Ports>(addr: u32, p: &P) -> Option<u8>
-    ensures trap { result ≡ access_trap (P.seen p.now).site Ld addr }
-    ensures none { result ≡ None → IsAccess (P.seen p.now).site addr 4 }
+/// The size of an access in bytes.
+fn size(name: MemName) -> u8
+    ensures size { result ≡ size_of name }
+    ensures some { 1 ≤ result }
+    ensures few { result ≤ 8 }
 {
-    if addr % 4 != 0 {
-        Some(trap::NOT_ALIGNED)
-    } else if !p.in_ram(addr, 4) {
-        Some(DATA_ACCESS)
-    } else {
-        None
+    match name {
+        MemName::Ldub | MemName::Ldsb | MemName::Stb | MemName::Ldstub => 1,
+        MemName::Lduh | MemName::Ldsh | MemName::Sth => 2,
+        MemName::Ld | MemName::St | MemName::Swap => 4,
+        MemName::Ldd | MemName::Std => 8,
     }
 }
 
-/// The trap of ST at this address, which is to be a multiple of 4, and the output word or wholly in RAM without a
-/// text byte.
-fn store_trap<P: Ports>(addr: u32, p: &P) -> Option<u8>
-    ensures trap { result ≡ access_trap (P.seen p.now).site St addr }
-    ensures none { result ≡ None → addr ≢ OUTPUT_WORD → IsAccess (P.seen p.now).site addr 4 }
+// ---- the traps of an address
+
+fn is_misaligned(name: MemName, addr: u32) -> bool
+    ensures { result ≡ access_misaligned name addr }
 {
-    if addr % 4 != 0 {
-        Some(trap::NOT_ALIGNED)
-    } else if addr == OUTPUT_WORD {
-        None
-    } else if p.is_text(addr, 4) || !p.in_ram(addr, 4) {
-        Some(DATA_ACCESS)
-    } else {
-        None
+    addr % u32::from(size(name)) != 0
+}
+
+fn is_load_refused<P: Ports>(addr: u32, len: u8, p: &P) -> bool
+    ensures { result ≡ load_refused (P.seen p.now).site addr len }
+{
+    !p.in_ram(addr, len)
+}
+
+fn is_store_refused<P: Ports>(addr: u32, len: u8, p: &P) -> bool
+    ensures { result ≡ store_refused (P.seen p.now).site addr len }
+{
+    p.is_text(addr, len) || !p.in_ram(addr, len)
+}
+
+/// The access may not have this address: it is to be wholly in RAM, and what stores touches no text, but ST may write
+/// the output word.
+fn is_refused<P: Ports>(name: MemName, addr: u32, p: &P) -> bool
+    ensures { result ≡ access_refused (P.seen p.now).site name addr }
+{
+    let len = size(name);
+    match name {
+        MemName::St if addr == OUTPUT_WORD => false,
+        MemName::St | MemName::Stb | MemName::Sth | MemName::Std => is_store_refused(addr, len, p),
+        MemName::Ldstub | MemName::Swap => {
+            is_load_refused(addr, len, p) || is_store_refused(addr, len, p)
+        }
+        _ => is_load_refused(addr, len, p),
     }
 }
 
-/// LD: register `rd` gets the word at the sum of the operands.
-#[tactic(auto, unfolding(lf_model::specs::Effects::effect))]
-fn load_word<P: Ports>(a: &mut Arch, rd: u8, rs1: u8, src: Src, p: &mut P) -> Did
+fn is_plain_space(asi: u8) -> bool
+    ensures { result ≡ is_plain_space asi }
+{
+    matches!(asi, 0x01 | 0x08 | 0x09 | 0x0a | 0x0b)
+}
+
+/// The access may not have this address in this address space: a system control register is loaded and stored as a
+/// word, and there is no other space than these and the plain ones.
+fn is_alternate_refused<P: Ports>(name: MemName, asi: u8, addr: u32, p: &P) -> bool
+    ensures { result ≡ alternate_refused (P.seen p.now).site name asi addr }
+{
+    if is_plain_space(asi) {
+        is_refused(name, addr, p)
+    } else {
+        asi != SYSTEM_CONTROL || !matches!(name, MemName::Ld | MemName::St)
+    }
+}
+
+// ---- what an access does
+
+/// The bytes that a load reads, or what it comes to where the data cache misses.
+fn look<P: Ports>(addr: u32, len: u8, p: &mut P) -> Result<u64, Did>
+    requires access { IsAccess (P.seen p.old).site addr len }
+    requires room { 0 < P.room p.old }
+    ensures looks { Looks (P.parts p.old) addr len (P.seen p.old) (P.seen p.new) result }
+    ensures fits { IfOk result (λ value. value < 2 ^ (8 * len)) }
+    ensures room { P.room p.old ≤ P.room p.new + 1 }
+{
+    let waiting = p.waiting();
+    match p.load(addr, len) {
+        Look::Hit { value, .. } => Ok(value),
+        Look::Miss(_) if waiting => Err(Did::Need(Turn::Drain(Why::Miss))),
+        Look::Miss(why) => Err(Did::Need(Turn::Load { addr, len, why })),
+    }
+}
+
+/// What a load of one register puts there of the bytes that it read.
+fn loaded(name: MemName, value: u64) -> u32
+    requires bytes { value < 2 ^ (8 * size_of name) }
+    requires one { size_of name ≤ 4 }
+    ensures { result ≡ extended name value }
+{
+    match name {
+        MemName::Ldsb => lf_num::sext(value as u32, 8),
+        MemName::Ldsh => lf_num::sext(value as u32, 16),
+        _ => value as u32,
+    }
+}
+
+/// A load of one register.
+fn load<P: Ports>(a: &mut Arch, name: MemName, addr: u32, rd: u8, p: &mut P) -> Did
     requires sound { IsSound a.old }
     requires count { a.old.k + 1 < 2 ^ 32 }
-    requires registers { (rd < 32) × (rs1 < 32) }
-    requires fields { IsSource src }
+    requires one { size_of name ≤ 4 }
+    requires register { rd < 32 }
+    requires access { IsAccess (P.seen p.old).site addr (size_of name) }
     requires room { 0 < P.room p.old }
-    ensures does { Performs (Mem Ld rd rs1 src) (P.parts p.old) result a.old a.new (P.seen p.old) (P.seen p.new) }
+    ensures does { Makes (λ registers. load_effect registers name addr rd (state_of a.old (P.seen p.old))) (P.parts p.old) result a.old a.new (P.seen p.old) (P.seen p.new) }
     ensures keeps { Keeps a.old a.new (P.seen p.old) (P.seen p.new) (P.room p.old) (P.room p.new) }
 {
-    let addr = match read_operands(a, rs1, src, p) {
-        Ok(x) => x.a.wrapping_add(x.b),
-        Err(bad) => return trap::stop(bad, p),
-    };
-    if let Some(tt) = load_trap(addr, p) {
-        return trap::take(a, tt, p);
-    }
-    let waiting = p.waiting();
-    match p.load(addr, 4) {
-        Look::Hit { value, .. } => {
-            write_register(a, rd, value as u32, p);
-            advance(a);
-            a.k += 1;
+    match look(addr, size(name), p) {
+        Ok(value) => {
+            retire_with(a, rd, loaded(name, value), p);
             Did::Retired
         }
-        Look::Miss(_) if waiting => Did::Need(Turn::Drain(Why::Miss)),
-        Look::Miss(why) => Did::Need(Turn::Load { addr, len: 4, why }),
+        Err(did) => did,
     }
 }
 
-/// A word goes to the output, or to RAM, or the store traps. The registers that the instruction read were good.
-fn put_word<P: Ports>(a: &mut Arch, addr: u32, value: u32, p: &mut P) -> Did
+/// LDD.
+fn load_double<P: Ports>(a: &mut Arch, addr: u32, rd: u8, p: &mut P) -> Did
     requires sound { IsSound a.old }
     requires count { a.old.k + 1 < 2 ^ 32 }
+    requires register { rd + 1 < 32 }
+    requires access { IsAccess (P.seen p.old).site addr 8 }
     requires room { 0 < P.room p.old }
-    ensures does { (registers : List ℕ) → first_bad (P.parts p.old) a.old.ctl.cwp registers ≡ None → Does (P.seen p.old).site.core (P.parts p.old) (Some (put_word (P.seen p.old).site registers addr value (state_of a.old (P.seen p.old)))) result (run_seen a.old (P.seen p.old)) (run_seen a.new (P.seen p.new)) }
+    ensures does { Makes (λ registers. load_double_effect registers addr rd (state_of a.old (P.seen p.old))) (P.parts p.old) result a.old a.new (P.seen p.old) (P.seen p.new) }
     ensures keeps { Keeps a.old a.new (P.seen p.old) (P.seen p.new) (P.room p.old) (P.room p.new) }
 {
-    if let Some(tt) = store_trap(addr, p) {
-        return trap::take(a, tt, p);
+    match look(addr, 8, p) {
+        Ok(value) => {
+            write_register(a, rd, (value >> 32) as u32, p);
+            retire_with(a, rd + 1, (value % (1 << 32)) as u32, p);
+            Did::Retired
+        }
+        Err(did) => did,
     }
-    if addr == OUTPUT_WORD {
-        p.out((value % 256) as u8);
-        advance(a);
-        return Did::Retired;
-    }
-    if p.store(addr, 4, u64::from(value)).is_err() {
+}
+
+/// A store of the number `value`.
+fn store<P: Ports>(a: &mut Arch, name: MemName, addr: u32, rd: u8, value: u64, p: &mut P) -> Did
+    requires sound { IsSound a.old }
+    requires count { a.old.k + 1 < 2 ^ 32 }
+    requires number { value ≡ stored_number name rd (state_of a.old (P.seen p.old)) }
+    requires fits { value < 2 ^ (8 * size_of name) }
+    requires access { IsAccess (P.seen p.old).site addr (size_of name) }
+    requires text { touches_text (P.seen p.old).site.image.text addr (size_of name) ≡ false }
+    requires room { 0 < P.room p.old }
+    ensures does { Makes (λ registers. store_effect registers name addr rd (state_of a.old (P.seen p.old))) (P.parts p.old) result a.old a.new (P.seen p.old) (P.seen p.new) }
+    ensures keeps { Keeps a.old a.new (P.seen p.old) (P.seen p.new) (P.room p.old) (P.room p.new) }
+{
+    if p.store(addr, size(name), value).is_err() {
         return Did::Need(Turn::Drain(Why::Full));
     }
     advance(a);
@@ -105,37 +184,135 @@ fn put_word<P: Ports>(a: &mut Arch, addr: u32, value: u32, p: &mut P) -> Did
     Did::Retired
 }
 
-/// ST: the word of register `rd` goes to the sum of the operands.
-#[tactic(auto, unfolding(lf_model::specs::Effects::effect))]
-fn store_word<P: Ports>(a: &mut Arch, rd: u8, rs1: u8, src: Src, p: &mut P) -> Did
+/// A word stored to the output word.
+fn output<P: Ports>(a: &mut Arch, rd: u8, value: u64, p: &mut P) -> Did
     requires sound { IsSound a.old }
-    requires count { a.old.k + 1 < 2 ^ 32 }
-    requires registers { (rd < 32) × (rs1 < 32) }
-    requires fields { IsSource src }
+    requires number { value ≡ register (state_of a.old (P.seen p.old)) rd }
     requires room { 0 < P.room p.old }
-    ensures does { Performs (Mem St rd rs1 src) (P.parts p.old) result a.old a.new (P.seen p.old) (P.seen p.new) }
+    ensures does { Makes (λ registers. output_effect registers rd (state_of a.old (P.seen p.old))) (P.parts p.old) result a.old a.new (P.seen p.old) (P.seen p.new) }
     ensures keeps { Keeps a.old a.new (P.seen p.old) (P.seen p.new) (P.room p.old) (P.room p.new) }
 {
-    match read_stored(a, rd, rs1, src, p) {
-        Ok(stored) => put_word(a, stored.a.wrapping_add(stored.b), stored.value, p),
-        Err(bad) => trap::stop(bad, p),
+    p.out((value % 256) as u8);
+    advance(a);
+    Did::Retired
+}
+
+/// LDSTUB and SWAP: a turn on the bus, once no store waits.
+fn atomic<P: Ports>(a: &Arch, name: MemName, addr: u32, rd: u8, value: u32, p: &P) -> Did
+    requires number { value ≡ stored_number name rd (state_of a.now (P.seen p.now)) }
+    ensures does { Makes (λ registers. atomic_effect registers name addr rd (state_of a.now (P.seen p.now))) (P.parts p.now) result a.now a.now (P.seen p.now) (P.seen p.now) }
+{
+    if p.waiting() {
+        return Did::Need(Turn::Drain(Why::Atomic));
+    }
+    Did::Need(Turn::Atomic {
+        addr,
+        len: size(name),
+        new: value,
+        rd,
+    })
+}
+
+/// An access that takes no trap.
+fn make<P: Ports>(a: &mut Arch, name: MemName, rd: u8, x: Request, p: &mut P) -> Did
+    requires sound { IsSound a.old }
+    requires count { a.old.k + 1 < 2 ^ 32 }
+    requires register { rd < 32 }
+    requires pair { HasPair name rd }
+    requires number { x.value ≡ stored_number name rd (state_of a.old (P.seen p.old)) }
+    requires fits { x.value < 2 ^ (8 * size_of name) }
+    requires aligned { access_misaligned name x.addr ≡ false }
+    requires accepted { access_refused (P.seen p.old).site name x.addr ≡ false }
+    requires room { 0 < P.room p.old }
+    ensures does { Makes (λ registers. mem_effect registers name x.addr rd (state_of a.old (P.seen p.old))) (P.parts p.old) result a.old a.new (P.seen p.old) (P.seen p.new) }
+    ensures keeps { Keeps a.old a.new (P.seen p.old) (P.seen p.new) (P.room p.old) (P.room p.new) }
+{
+    match name {
+        MemName::Ldd => load_double(a, x.addr, rd, p),
+        MemName::St if x.addr == OUTPUT_WORD => output(a, rd, x.value, p),
+        MemName::St | MemName::Stb | MemName::Sth | MemName::Std => {
+            store(a, name, x.addr, rd, x.value, p)
+        }
+        MemName::Ldstub | MemName::Swap => atomic(a, name, x.addr, rd, x.value as u32, p),
+        MemName::Ld | MemName::Ldub | MemName::Lduh | MemName::Ldsb | MemName::Ldsh => {
+            load(a, name, x.addr, rd, p)
+        }
     }
 }
 
-/// A load or store, where it is built.
+/// A load, store or atomic.
 #[tactic(auto, unfolding(lf_model::specs::Effects::effect))]
 pub fn access<P: Ports>(a: &mut Arch, name: MemName, rd: u8, rs1: u8, src: Src, p: &mut P) -> Did
     requires sound { IsSound a.old }
     requires count { a.old.k + 1 < 2 ^ 32 }
     requires registers { (rd < 32) × (rs1 < 32) }
     requires fields { IsSource src }
+    requires pair { HasPair name rd }
     requires room { 0 < P.room p.old }
     ensures does { Performs (Mem name rd rs1 src) (P.parts p.old) result a.old a.new (P.seen p.old) (P.seen p.new) }
     ensures keeps { Keeps a.old a.new (P.seen p.old) (P.seen p.new) (P.room p.old) (P.room p.new) }
 {
-    match name {
-        MemName::Ld => load_word(a, rd, rs1, src, p),
-        MemName::St => store_word(a, rd, rs1, src, p),
-        _ => Did::Unbuilt,
+    let x = match read_request(a, name, rd, rs1, src, p) {
+        Ok(x) => x,
+        Err(bad) => return trap::stop(bad, p),
+    };
+    let checks = Checks {
+        align: is_misaligned(name, x.addr),
+        access: is_refused(name, x.addr, p),
+        ..Checks::default()
+    };
+    match first_trap(&checks) {
+        Some(tt) => trap::take(a, tt, p),
+        None => make(a, name, rd, x, p),
+    }
+}
+
+/// LDA and STA of a system control register, which reads as 0.
+fn control<P: Ports>(a: &mut Arch, name: MemName, rd: u8, p: &mut P) -> Did
+    requires sound { IsSound a.old }
+    requires register { rd < 32 }
+    ensures does { Makes (λ registers. control_effect registers name rd (state_of a.old (P.seen p.old))) (P.parts p.old) result a.old a.new (P.seen p.old) (P.seen p.new) }
+    ensures keeps { Keeps a.old a.new (P.seen p.old) (P.seen p.new) (P.room p.old) (P.room p.new) }
+{
+    if name == MemName::Ld {
+        write_register(a, rd, 0, p);
+    }
+    advance(a);
+    Did::Retired
+}
+
+/// An alternate form: in a plain address space it does what its plain form does.
+#[tactic(auto, unfolding(lf_model::specs::Effects::effect))]
+pub fn alternate<P: Ports>(
+    a: &mut Arch,
+    name: MemName,
+    rd: u8,
+    rs1: u8,
+    rs2: u8,
+    asi: u8,
+    p: &mut P,
+) -> Did
+    requires sound { IsSound a.old }
+    requires count { a.old.k + 1 < 2 ^ 32 }
+    requires registers { (rd < 32) × (rs1 < 32) × (rs2 < 32) }
+    requires pair { HasPair name rd }
+    requires room { 0 < P.room p.old }
+    ensures does { Performs (Alternate name rd rs1 rs2 asi) (P.parts p.old) result a.old a.new (P.seen p.old) (P.seen p.new) }
+    ensures keeps { Keeps a.old a.new (P.seen p.old) (P.seen p.new) (P.room p.old) (P.room p.new) }
+{
+    let x = match read_request(a, name, rd, rs1, Src::Reg(rs2), p) {
+        Ok(x) => x,
+        Err(bad) => return trap::stop(bad, p),
+    };
+    let checks = Checks {
+        privileged: !a.ctl.s,
+        align: is_misaligned(name, x.addr),
+        access: is_alternate_refused(name, asi, x.addr, p),
+        ..Checks::default()
+    };
+    match first_trap(&checks) {
+        Some(tt) => trap::take(a, tt, p),
+        None if is_plain_space(asi) => make(a, name, rd, x, p),
+        None => control(a, name, rd, p),
     }
 }

@@ -1,34 +1,23 @@
-ghost use Rattle.std.specs.Prelude.{◌≡◌, ◌^◌, ◌<◌, ◌≤◌, IfErr};
+ghost use Rattle.std.specs.Prelude.{◌≡◌, ◌*◌, ◌^◌, ◌<◌, ◌≤◌, IfOk, IfErr};
 ghost use Rattle.lf_num.specs.Bits.{sign_extended};
-ghost use Rattle.lf_model.specs.State.{cell, with_register};
-ghost use Rattle.lf_model.specs.Step.{IsSound, state_of};
-ghost use Rattle.v8_exec.specs.Reading.{IsSource, ReadsRegister, ReadsSource, ReadsOperands, ReadsStored};
+ghost use Rattle.lf_model.specs.Instructions.{stored_registers};
+ghost use Rattle.lf_model.specs.Memory.{size_of, stored_number};
+ghost use Rattle.lf_model.specs.State.{with_register};
+ghost use Rattle.lf_model.specs.Step.{state_of};
+ghost use Rattle.v8_exec.specs.Accesses.{ReadsNumber, ReadsRequest};
+ghost use Rattle.v8_exec.specs.Reading.{IsSource, HasPair, ReadsRegister, ReadsSource, ReadsOperands};
 
 use crate::ports::Ports;
 use lf_model::control::Arch;
-use lf_model::instruction::Src;
+use lf_model::instruction::{MemName, Src};
 use lf_model::step::RegBad;
+use v8_windows::cell;
 
 /// The values of the two operands.
 #[derive(Clone, Copy)]
 pub struct Operands {
     pub a: u32,
     pub b: u32,
-}
-
-/// The cell of register `n` in a window.
-pub fn cell(window: u8, n: u8) -> usize
-    requires window { window < 8 }
-    requires register { n < 32 }
-    ensures cell { result ≡ cell window n }
-    ensures within { result < 136 }
-{
-    let n = usize::from(n);
-    if n < 8 {
-        n
-    } else {
-        8 + (16 * usize::from(window) + n - 8) % 128
-    }
 }
 
 /// simm13 with its sign extended.
@@ -104,36 +93,63 @@ pub fn write_register<P: Ports>(a: &Arch, n: u8, value: u32, p: &mut P)
     }
 }
 
-/// What a store reads: its operands and the number that it stores.
+/// What an access reads from registers: its address, and the number that it stores, 0 for a load.
 #[derive(Clone, Copy)]
-pub struct Stored {
-    pub a: u32,
-    pub b: u32,
-    pub value: u32,
+pub struct Request {
+    pub addr: u32,
+    pub value: u64,
 }
 
-/// The values of the operands, rs1 first, and then of register `rd`.
-pub fn read_stored<P: Ports>(
+/// The number that an access stores: from register `rd`, and then from the one behind it.
+fn read_number<P: Ports>(a: &Arch, name: MemName, rd: u8, p: &mut P) -> Result<u64, RegBad>
+    requires window { a.now.ctl.cwp < 8 }
+    requires register { rd < 32 }
+    requires pair { HasPair name rd }
+    ensures within { IfErr result (λ bad. bad.cell < 136) }
+    ensures read { ReadsNumber (P.parts p.old) (state_of a.now (P.seen p.old)) (stored_registers name rd) (stored_number name rd (state_of a.now (P.seen p.old))) result }
+    ensures fits { IfOk result (λ value. value < 2 ^ (8 * size_of name)) }
+    ensures seen { P.seen p.new ≡ P.seen p.old }
+    ensures parts { P.parts p.new ≡ P.parts p.old }
+    ensures room { P.room p.old ≤ P.room p.new }
+{
+    match name {
+        MemName::Stb => Ok(u64::from(read_register(a, rd, p)? % 256)),
+        MemName::Sth => Ok(u64::from(read_register(a, rd, p)? % 65536)),
+        MemName::St | MemName::Swap => Ok(u64::from(read_register(a, rd, p)?)),
+        MemName::Std => {
+            let first = u64::from(read_register(a, rd, p)?);
+            let second = u64::from(read_register(a, rd + 1, p)?);
+            Ok((first << 32) + second)
+        }
+        MemName::Ldstub => Ok(0xff),
+        _ => Ok(0),
+    }
+}
+
+/// What an access reads, in the order rs1, rs2, `rd` and the register behind it.
+pub fn read_request<P: Ports>(
     a: &Arch,
+    name: MemName,
     rd: u8,
     rs1: u8,
     src: Src,
     p: &mut P,
-) -> Result<Stored, RegBad>
+) -> Result<Request, RegBad>
     requires window { a.now.ctl.cwp < 8 }
     requires registers { (rd < 32) × (rs1 < 32) }
     requires fields { IsSource src }
+    requires pair { HasPair name rd }
     ensures within { IfErr result (λ bad. bad.cell < 136) }
-    ensures read { ReadsStored (P.parts p.old) (state_of a.now (P.seen p.old)) rd rs1 src result }
+    ensures read { ReadsRequest (P.parts p.old) (state_of a.now (P.seen p.old)) name rd rs1 src result }
+    ensures fits { IfOk result (λ x. x.value < 2 ^ (8 * size_of name)) }
     ensures seen { P.seen p.new ≡ P.seen p.old }
     ensures parts { P.parts p.new ≡ P.parts p.old }
     ensures room { P.room p.old ≤ P.room p.new }
 {
     let operands = read_operands(a, rs1, src, p)?;
-    let value = read_register(a, rd, p)?;
-    Ok(Stored {
-        a: operands.a,
-        b: operands.b,
+    let value = read_number(a, name, rd, p)?;
+    Ok(Request {
+        addr: operands.a.wrapping_add(operands.b),
         value,
     })
 }

@@ -1,4 +1,4 @@
-ghost use Rattle.std.specs.Prelude.{◌≡◌, ◌≢◌, ℕ, ◌+◌, ◌*◌, ◌^◌, ◌<◌, ◌≤◌, ◌++◌, ◌∷◌, [], slice_set, is_ok, is_err};
+ghost use Rattle.std.specs.Prelude.{◌≡◌, ◌≢◌, ℕ, ◌+◌, ◌*◌, ◌^◌, ◌<◌, ◌≤◌, ◌++◌, ◌∷◌, [], slice_set, is_ok, is_err, false};
 ghost use Rattle.lf_model.specs.Start.{is_in_ram, touches_text};
 ghost use Rattle.lf_model.specs.Step.{reading, after_look, after_store};
 ghost use Rattle.v8_exec.specs.Reading.{FitsLook, IsAccess};
@@ -16,6 +16,9 @@ pub trait Ports {
 
     /// What the parts answer.
     ghost parts: { Self → Parts };
+
+    /// Both caches are empty.
+    ghost caches_empty: { Self → Type 0 };
 
     /// How many more operations and bytes of output can be recorded.
     ghost room: { Self → ℕ };
@@ -49,6 +52,7 @@ pub trait Ports {
     fn store(&mut self, addr: u32, len: u8, value: u64) -> Result<(), Full>
         requires access { IsAccess (seen self.old).site addr len }
         requires room { 0 < room self.old }
+        requires text { touches_text (seen self.old).site.image.text addr len ≡ false }
         requires value { value < 2 ^ (8 * len) }
         ensures full { is_err result ≡ (parts self.old).full }
         ensures seen { seen self.new ≡ after_store addr len value (is_ok result) (seen self.old) }
@@ -74,6 +78,7 @@ pub trait Ports {
 
     /// Empties both caches.
     fn flush(&mut self)
+        ensures empty { caches_empty self.new }
         ensures seen { seen self.new ≡ seen self.old }
         ensures room { room self.old ≤ room self.new };
 }

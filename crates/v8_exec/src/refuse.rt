@@ -1,6 +1,7 @@
 //! Instructions that always trap.
 
-ghost use Rattle.std.specs.Prelude.{◌≡◌, if◌then◌else◌};
+ghost use Rattle.std.specs.Prelude.{◌≡◌, not};
+ghost use Rattle.lf_model.specs.Traps.{no_checks};
 ghost use Rattle.lf_model.specs.Step.{IsSound};
 ghost use Rattle.lf_model.specs.declared.instruction.Instr.TheVariants.{Illegal, AltIllegal, FpOff, CpOff, FpQueue, CpQueue};
 ghost use Rattle.v8_exec.specs.Frame.{Keeps, Performs};
@@ -9,24 +10,16 @@ use crate::ports::Ports;
 use crate::trap;
 use lf_model::control::Arch;
 use lf_model::step::Did;
+use lf_model::trap::Checks;
 
-/// Trap type of a word that is no instruction: `illegal_instruction`.
-const ILLEGAL: u8 = 0x02;
-
-/// Trap type of a supervisor's instruction in user mode: `privileged_instruction`.
-const PRIVILEGED: u8 = 0x03;
-
-/// Trap type of a floating-point instruction: `fp_disabled`.
-const NO_FLOATING_POINT: u8 = 0x04;
-
-/// Trap type of a coprocessor instruction: `cp_disabled`.
-const NO_COPROCESSOR: u8 = 0x24;
-
-/// In user mode `privileged_instruction` comes before another trap.
-fn privileged_or(a: &Arch, tt: u8) -> u8
-    ensures { result ≡ (if a.now.ctl.s then tt else 0x03) }
+/// No trap but `privileged_instruction`, in user mode.
+fn privileged(a: &Arch) -> Checks
+    ensures { result ≡ record no_checks { privileged = not a.now.ctl.s } }
 {
-    if a.ctl.s { tt } else { PRIVILEGED }
+    Checks {
+        privileged: !a.ctl.s,
+        ..Checks::default()
+    }
 }
 
 /// A word that is no instruction.
@@ -36,7 +29,8 @@ pub fn illegal<P: Ports>(a: &mut Arch, p: &mut P) -> Did
     ensures does { Performs Illegal (P.parts p.old) result a.old a.new (P.seen p.old) (P.seen p.new) }
     ensures keeps { Keeps a.old a.new (P.seen p.old) (P.seen p.new) (P.room p.old) (P.room p.new) }
 {
-    trap::take_unread(a, ILLEGAL, p)
+    let checks = Checks { illegal: true, ..Checks::default() };
+    trap::refuse(a, checks, p)
 }
 
 /// An alternate form that is no instruction.
@@ -46,7 +40,8 @@ pub fn illegal_alternate<P: Ports>(a: &mut Arch, p: &mut P) -> Did
     ensures does { Performs AltIllegal (P.parts p.old) result a.old a.new (P.seen p.old) (P.seen p.new) }
     ensures keeps { Keeps a.old a.new (P.seen p.old) (P.seen p.new) (P.room p.old) (P.room p.new) }
 {
-    trap::take_unread(a, privileged_or(a, ILLEGAL), p)
+    let checks = Checks { illegal: true, ..privileged(a) };
+    trap::refuse(a, checks, p)
 }
 
 /// A floating-point instruction: there is no floating-point unit.
@@ -56,7 +51,8 @@ pub fn floating_point<P: Ports>(a: &mut Arch, p: &mut P) -> Did
     ensures does { Performs FpOff (P.parts p.old) result a.old a.new (P.seen p.old) (P.seen p.new) }
     ensures keeps { Keeps a.old a.new (P.seen p.old) (P.seen p.new) (P.room p.old) (P.room p.new) }
 {
-    trap::take_unread(a, NO_FLOATING_POINT, p)
+    let checks = Checks { fp_off: true, ..Checks::default() };
+    trap::refuse(a, checks, p)
 }
 
 /// STDFQ, which is privileged.
@@ -66,7 +62,8 @@ pub fn floating_point_queue<P: Ports>(a: &mut Arch, p: &mut P) -> Did
     ensures does { Performs FpQueue (P.parts p.old) result a.old a.new (P.seen p.old) (P.seen p.new) }
     ensures keeps { Keeps a.old a.new (P.seen p.old) (P.seen p.new) (P.room p.old) (P.room p.new) }
 {
-    trap::take_unread(a, privileged_or(a, NO_FLOATING_POINT), p)
+    let checks = Checks { fp_off: true, ..privileged(a) };
+    trap::refuse(a, checks, p)
 }
 
 /// A coprocessor instruction: there is no coprocessor.
@@ -76,7 +73,8 @@ pub fn coprocessor<P: Ports>(a: &mut Arch, p: &mut P) -> Did
     ensures does { Performs CpOff (P.parts p.old) result a.old a.new (P.seen p.old) (P.seen p.new) }
     ensures keeps { Keeps a.old a.new (P.seen p.old) (P.seen p.new) (P.room p.old) (P.room p.new) }
 {
-    trap::take_unread(a, NO_COPROCESSOR, p)
+    let checks = Checks { cp_off: true, ..Checks::default() };
+    trap::refuse(a, checks, p)
 }
 
 /// STDCQ, which is privileged.
@@ -86,5 +84,6 @@ pub fn coprocessor_queue<P: Ports>(a: &mut Arch, p: &mut P) -> Did
     ensures does { Performs CpQueue (P.parts p.old) result a.old a.new (P.seen p.old) (P.seen p.new) }
     ensures keeps { Keeps a.old a.new (P.seen p.old) (P.seen p.new) (P.room p.old) (P.room p.new) }
 {
-    trap::take_unread(a, privileged_or(a, NO_COPROCESSOR), p)
+    let checks = Checks { cp_off: true, ..privileged(a) };
+    trap::refuse(a, checks, p)
 }

@@ -1,8 +1,9 @@
-ghost use Rattle.std.specs.Prelude.{◌≡◌, ◌<◌, ◌+◌, ◌*◌, ◌^◌};
-ghost use Rattle.lf_model.specs.StateRegisters.{asr_value};
-ghost use Rattle.lf_model.specs.Step.{IsSound};
+ghost use Rattle.std.specs.Prelude.{◌≡◌, ◌<◌, ◌+◌, ◌*◌, ◌%◌, ◌^◌, false};
+ghost use Rattle.lf_model.specs.Fields.{bits_of};
+ghost use Rattle.lf_model.specs.Instructions.{is_privileged_state};
+ghost use Rattle.lf_model.specs.StateRegisters.{asr_value, state_value, names_no_window, psr_parts, with_state};
+ghost use Rattle.lf_model.specs.Step.{IsSound, Seen, state_of};
 ghost use Rattle.lf_model.specs.declared.instruction.Instr.TheVariants.{ReadState, ReadAsr, WriteState, WriteAsr};
-ghost use Rattle.lf_model.specs.declared.instruction.StateName.TheVariants.{Y};
 ghost use Rattle.v8_exec.specs.Frame.{Keeps, Performs};
 ghost use Rattle.v8_exec.specs.Reading.{IsSource};
 
@@ -10,9 +11,11 @@ use crate::operands::{read_operands, write_register};
 use crate::ports::Ports;
 use crate::program_counter::advance;
 use crate::trap;
-use lf_model::control::Arch;
+use lf_model::control::{Arch, Ctl};
 use lf_model::instruction::{Src, StateName};
 use lf_model::step::Did;
+use lf_model::trap::Checks;
+use v8_traps::first_trap;
 
 /// The ancillary state register of the processor configuration (GRLIB, LEON3FT, processor configuration register).
 const CONFIGURATION: u8 = 17;
@@ -35,20 +38,26 @@ fn asr_value(core: u32, number: u8) -> u32
     }
 }
 
-/// RDY: register `rd` gets Y.
-#[tactic(auto, unfolding(lf_model::specs::Effects::effect))]
-fn read_y<P: Ports>(a: &mut Arch, rd: u8, p: &mut P) -> Did
-    requires sound { IsSound a.old }
-    requires register { rd < 32 }
-    ensures does { Performs (ReadState Y rd) (P.parts p.old) result a.old a.new (P.seen p.old) (P.seen p.new) }
-    ensures keeps { Keeps a.old a.new (P.seen p.old) (P.seen p.new) (P.room p.old) (P.room p.new) }
+/// PSR, WIM and TBR are for the supervisor alone.
+fn is_privileged(name: StateName) -> bool
+    ensures { result ≡ is_privileged_state name }
 {
-    write_register(a, rd, a.y, p);
-    advance(a);
-    Did::Retired
+    name != StateName::Y
 }
 
-/// Register `rd` gets a state register, where that is built.
+fn value_of(a: &Arch, name: StateName) -> u32
+    requires sound { IsSound a.now }
+    ensures { (seen : Seen) → result ≡ state_value name (state_of a.now seen) }
+{
+    match name {
+        StateName::Y => a.y,
+        StateName::Psr => a.ctl.psr(),
+        StateName::Wim => a.wim,
+        StateName::Tbr => a.ctl.tbr,
+    }
+}
+
+/// RDY, RDPSR, RDWIM and RDTBR: register `rd` gets a state register.
 #[tactic(auto, unfolding(lf_model::specs::Effects::effect))]
 pub fn read<P: Ports>(a: &mut Arch, name: StateName, rd: u8, p: &mut P) -> Did
     requires sound { IsSound a.old }
@@ -56,10 +65,16 @@ pub fn read<P: Ports>(a: &mut Arch, name: StateName, rd: u8, p: &mut P) -> Did
     ensures does { Performs (ReadState name rd) (P.parts p.old) result a.old a.new (P.seen p.old) (P.seen p.new) }
     ensures keeps { Keeps a.old a.new (P.seen p.old) (P.seen p.new) (P.room p.old) (P.room p.new) }
 {
-    match name {
-        StateName::Y => read_y(a, rd, p),
-        _ => Did::Unbuilt,
+    let checks = Checks {
+        privileged: is_privileged(name) && !a.ctl.s,
+        ..Checks::default()
+    };
+    if let Some(tt) = first_trap(&checks) {
+        return trap::take_unread(a, tt, p);
     }
+    write_register(a, rd, value_of(a, name), p);
+    advance(a);
+    Did::Retired
 }
 
 /// RDASR: register `rd` gets ancillary state register `number`.
@@ -76,24 +91,52 @@ pub fn read_asr<P: Ports>(a: &mut Arch, rd: u8, number: u8, p: &mut P) -> Did
     Did::Retired
 }
 
-/// WRY: Y becomes the first operand xor the second.
-#[tactic(auto, unfolding(lf_model::specs::Effects::effect))]
-fn write_y<P: Ports>(a: &mut Arch, rs1: u8, src: Src, p: &mut P) -> Did
-    requires sound { IsSound a.old }
-    requires register { rs1 < 32 }
-    requires fields { IsSource src }
-    ensures does { Performs (WriteState Y rs1 src) (P.parts p.old) result a.old a.new (P.seen p.old) (P.seen p.new) }
-    ensures keeps { Keeps a.old a.new (P.seen p.old) (P.seen p.new) (P.room p.old) (P.room p.new) }
+/// The value is none that PSR may get, since its CWP field names no window.
+fn names_no_window(name: StateName, value: u32) -> bool
+    ensures { result ≡ names_no_window name value }
 {
-    a.y = match read_operands(a, rs1, src, p) {
-        Ok(x) => x.a ^ x.b,
-        Err(bad) => return trap::stop(bad, p),
-    };
-    advance(a);
-    Did::Retired
+    name == StateName::Psr && value % 32 > 7
 }
 
-/// A state register becomes the first operand xor the second, where that is built.
+/// The parts of PSR that WRPSR writes.
+fn set_psr(ctl: &mut Ctl, value: u32)
+    requires { value % 32 < 8 }
+    ensures parts { ctl.new ≡ psr_parts value ctl.old }
+    ensures bounds { (ctl.new.icc < 16) × (ctl.new.pil < 16) × (ctl.new.cwp < 8) }
+{
+    ctl.icc = (value >> 20 & 15) as u8;
+    ctl.pil = (value >> 8 & 15) as u8;
+    ctl.s = value >> 7 & 1 == 1;
+    ctl.ps = value >> 6 & 1 == 1;
+    ctl.et = value >> 5 & 1 == 1;
+    ctl.cwp = (value & 31) as u8;
+}
+
+/// TBR with another base address.
+fn with_base(tbr: u32, value: u32) -> u32
+    ensures base { result ≡ bits_of value 31 12 * 2 ^ 12 + tbr % 2 ^ 12 }
+    ensures zeros { tbr % 16 ≡ 0 → result % 16 ≡ 0 }
+{
+    (value >> 12 << 12) + tbr % 4096
+}
+
+/// A value in a state register.
+fn set_state(a: &mut Arch, name: StateName, value: u32)
+    requires sound { IsSound a.old }
+    requires window { names_no_window name value ≡ false }
+    ensures sound { IsSound a.new }
+    ensures state { (seen : Seen) → state_of a.new seen ≡ with_state name value (state_of a.old seen) }
+    ensures counts { (a.new.core ≡ a.old.core) × (a.new.n ≡ a.old.n) × (a.new.k ≡ a.old.k) }
+{
+    match name {
+        StateName::Y => a.y = value,
+        StateName::Psr => set_psr(&mut a.ctl, value),
+        StateName::Wim => a.wim = value % 256,
+        StateName::Tbr => a.ctl.tbr = with_base(a.ctl.tbr, value),
+    }
+}
+
+/// WRY, WRPSR, WRWIM and WRTBR: a state register becomes the first operand xor the second.
 #[tactic(auto, unfolding(lf_model::specs::Effects::effect))]
 pub fn write<P: Ports>(a: &mut Arch, name: StateName, rs1: u8, src: Src, p: &mut P) -> Did
     requires sound { IsSound a.old }
@@ -102,10 +145,21 @@ pub fn write<P: Ports>(a: &mut Arch, name: StateName, rs1: u8, src: Src, p: &mut
     ensures does { Performs (WriteState name rs1 src) (P.parts p.old) result a.old a.new (P.seen p.old) (P.seen p.new) }
     ensures keeps { Keeps a.old a.new (P.seen p.old) (P.seen p.new) (P.room p.old) (P.room p.new) }
 {
-    match name {
-        StateName::Y => write_y(a, rs1, src, p),
-        _ => Did::Unbuilt,
+    let value = match read_operands(a, rs1, src, p) {
+        Ok(x) => x.a ^ x.b,
+        Err(bad) => return trap::stop(bad, p),
+    };
+    let checks = Checks {
+        privileged: is_privileged(name) && !a.ctl.s,
+        illegal: names_no_window(name, value),
+        ..Checks::default()
+    };
+    if let Some(tt) = first_trap(&checks) {
+        return trap::take(a, tt, p);
     }
+    set_state(a, name, value);
+    advance(a);
+    Did::Retired
 }
 
 /// WRASR, which has no effect but that its operands are read.

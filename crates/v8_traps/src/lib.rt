@@ -6,64 +6,46 @@
 ghost use Rattle.std.specs.Prelude.{◌≡◌, ◌<◌, ◌+◌, ◌*◌, ◌/◌, ◌^◌, ◌↔◌, IsTrue, IsNone, IfSome, false};
 ghost use Rattle.std.specs.List.{All};
 ghost use Rattle.lf_model.specs.State.{State};
-ghost use Rattle.lf_model.specs.Traps.{entered, handler_window};
+ghost use Rattle.lf_model.specs.Traps.{entered, handler_window, no_checks, traps_in_order};
 ghost use Rattle.lf_model.specs.Traps.{first_trap as first_of};
 ghost use Rattle.v8_traps.specs.Entry.{EntersHandler, at_handler};
-ghost use Rattle.v8_traps.specs.Priority.{traps_in_order, IsFirst};
+ghost use Rattle.v8_traps.specs.Priority.{IsFirst};
 
 pub use lf_model::control::Ctl;
+pub use lf_model::trap::Checks;
 
-// The trap types by their names in the manual (SPARC V8, chapter 7, traps).
-const INSTRUCTION_ACCESS_EXCEPTION: u8 = 0x01;
+/// PC is no word of the text.
+pub const INSTRUCTION_ACCESS_EXCEPTION: u8 = 0x01;
 
-const PRIVILEGED_INSTRUCTION: u8 = 0x03;
+/// An instruction for the supervisor, in user mode.
+pub const PRIVILEGED_INSTRUCTION: u8 = 0x03;
 
-const ILLEGAL_INSTRUCTION: u8 = 0x02;
+/// A word that is no instruction, or an instruction that may not be executed so.
+pub const ILLEGAL_INSTRUCTION: u8 = 0x02;
 
-const FP_DISABLED: u8 = 0x04;
+/// A floating-point instruction, where there is no floating-point unit.
+pub const FP_DISABLED: u8 = 0x04;
 
-const CP_DISABLED: u8 = 0x24;
+/// A coprocessor instruction, where there is no coprocessor.
+pub const CP_DISABLED: u8 = 0x24;
 
-const WINDOW_OVERFLOW: u8 = 0x05;
+/// SAVE into an invalid window.
+pub const WINDOW_OVERFLOW: u8 = 0x05;
 
-const WINDOW_UNDERFLOW: u8 = 0x06;
+/// RESTORE or RETT into an invalid window.
+pub const WINDOW_UNDERFLOW: u8 = 0x06;
 
-const MEM_ADDRESS_NOT_ALIGNED: u8 = 0x07;
+/// An address that is no multiple of its size.
+pub const MEM_ADDRESS_NOT_ALIGNED: u8 = 0x07;
 
-const DATA_ACCESS_EXCEPTION: u8 = 0x09;
+/// An address that has no such access.
+pub const DATA_ACCESS_EXCEPTION: u8 = 0x09;
 
-const TAG_OVERFLOW: u8 = 0x0a;
+/// A tagged instruction that traps on overflow.
+pub const TAG_OVERFLOW: u8 = 0x0a;
 
-const DIVISION_BY_ZERO: u8 = 0x2a;
-
-/// Which traps one instruction has, in the order in which they are taken.
-#[derive(Clone, Copy, Debug, Default, PartialEq, Eq)]
-pub struct Checks {
-    /// PC is no word of the text: `instruction_access_exception`.
-    pub fetch: bool,
-    /// A supervisor's instruction in user mode: `privileged_instruction`.
-    pub privileged: bool,
-    /// `illegal_instruction`.
-    pub illegal: bool,
-    /// A floating-point instruction: `fp_disabled`.
-    pub fp_off: bool,
-    /// A coprocessor instruction: `cp_disabled`.
-    pub cp_off: bool,
-    /// SAVE into an invalid window: `window_overflow`.
-    pub over: bool,
-    /// RESTORE or RETT into an invalid window: `window_underflow`.
-    pub under: bool,
-    /// An address that is no multiple of its size: `mem_address_not_aligned`.
-    pub align: bool,
-    /// An address that has no such access: `data_access_exception`.
-    pub access: bool,
-    /// A tagged instruction that traps on overflow: `tag_overflow`.
-    pub tag: bool,
-    /// A division by 0: `division_by_zero`.
-    pub zero: bool,
-    /// Ticc whose condition holds, with its trap type, 80 to FF: `trap_instruction`.
-    pub ticc: Option<u8>,
-}
+/// A division by 0.
+pub const DIVISION_BY_ZERO: u8 = 0x2a;
 
 /// What entry into a handler comes to.
 #[derive(Clone, Copy, Debug, PartialEq, Eq)]
@@ -76,7 +58,8 @@ pub enum Entered {
 
 /// The trap type of the first trap that is set, in the order of the fields.
 fn first_set(c: &Checks) -> Option<u8>
-    ensures { result ≡ first_of (traps_in_order c.now) }
+    ensures value { result ≡ first_of (traps_in_order c.now) }
+    ensures clear { IsNone result → c.now ≡ no_checks }
 {
     if c.fetch {
         Some(INSTRUCTION_ACCESS_EXCEPTION)
@@ -109,6 +92,7 @@ fn first_set(c: &Checks) -> Option<u8>
 pub fn first_trap(c: &Checks) -> Option<u8>
     ensures first { IfSome result (IsFirst (traps_in_order c.now)) }
     ensures none { IsNone result ↔ All IsNone (traps_in_order c.now) }
+    ensures clear { IsNone result → c.now ≡ no_checks }
 
     // The same, as the effects of instructions say it.
     ensures value { result ≡ first_of (traps_in_order c.now) }

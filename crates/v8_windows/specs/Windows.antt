@@ -1,8 +1,6 @@
--- The register windows (SPARC V8, chapter 4, windowed registers and WIM; appendix B, SAVE and RESTORE
--- instructions). There are 8 windows, numbered from 0; that they are 8 is this machine's own.
-use Rattle.std.specs.Prelude.{ℕ, ◌≡◌, ◌+◌, ◌%◌, ◌<◌, ◌≤◌}
+-- The registers of a window, and which windows are valid (SPARC V8, chapter 4, windowed registers and WIM).
+use Rattle.std.specs.Prelude.{ℕ, ◌≡◌, ◌<◌, ◌≤◌}
 use Rattle.std.specs.Int.{bit_at}
-use Rattle.lf_model.specs.Traps.{handler_window}
 
 -- the globals are registers 0 to 7
 abbrev pub IsGlobal : ℕ → Type 0
@@ -19,14 +17,6 @@ IsLocal n = (16 ≤ n) × (n < 24)
 -- the ins are registers 24 to 31
 abbrev pub IsIn : ℕ → Type 0
 IsIn n = (24 ≤ n) × (n < 32)
-
--- SAVE enters the window that a trap's handler enters: CWP - 1 modulo 8
-abbrev pub window_after_save : ℕ → ℕ
-window_after_save cwp = handler_window cwp
-
--- RESTORE and RETT enter the window CWP + 1 modulo 8
-abbrev pub window_after_restore : ℕ → ℕ
-window_after_restore cwp = (cwp + 1) % 8
 
 -- a window is invalid where its bit of WIM is 1
 abbrev pub IsInvalid : ℕ → ℕ → Type 0

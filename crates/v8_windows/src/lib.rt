@@ -4,10 +4,11 @@
 //! No call takes memory.
 #![tactic(auto)]
 
-ghost use Rattle.std.specs.Prelude.{◌≡◌, ◌+◌, ◌-◌, ◌<◌, ◌↔◌, ℕ, false, Err, IsTrue, IfOk, OnOk, IsOkUnless};
+ghost use Rattle.std.specs.Prelude.{◌≡◌, ◌+◌, ◌-◌, ◌<◌, ◌↔◌, ℕ, false, Err, IsTrue, IfOk, OnOk, IsOkUnless, is_err};
 ghost use Rattle.lf_model.specs.State.{cell};
 ghost use Rattle.v8_windows.specs.Windows.{IsGlobal, IsOut, IsLocal, IsIn};
-ghost use Rattle.v8_windows.specs.Windows.{window_after_save, window_after_restore, IsInvalid, IsValid};
+ghost use Rattle.lf_model.specs.Windows.{window_after_save, window_after_restore, is_invalid};
+ghost use Rattle.v8_windows.specs.Windows.{IsInvalid, IsValid};
 
 /// The number of windows.
 const WINDOWS: u8 = 8;
@@ -69,6 +70,7 @@ pub fn save(cwp: u8, wim: u32) -> Result<u8, WindowTrap>
     ensures valid { OnOk result (IsValid wim (window_after_save cwp)) }
     ensures trap { (result ≡ Err WindowTrap.Overflow) ↔ IsInvalid wim (window_after_save cwp) }
     ensures only { IsOkUnless result WindowTrap.Overflow }
+    ensures test { is_err result ≡ is_invalid wim (window_after_save cwp) }
 
     // RESTORE comes back.
     ensures back { IfOk result (λ window. window_after_restore window ≡ cwp) }
@@ -93,6 +95,7 @@ pub fn restore(cwp: u8, wim: u32) -> Result<u8, WindowTrap>
     ensures valid { OnOk result (IsValid wim (window_after_restore cwp)) }
     ensures trap { (result ≡ Err WindowTrap.Underflow) ↔ IsInvalid wim (window_after_restore cwp) }
     ensures only { IsOkUnless result WindowTrap.Underflow }
+    ensures test { is_err result ≡ is_invalid wim (window_after_restore cwp) }
 
     // SAVE comes back.
     ensures back { IfOk result (λ window. window_after_save window ≡ cwp) }

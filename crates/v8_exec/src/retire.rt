@@ -1,0 +1,25 @@
+ghost use Rattle.std.specs.Prelude.{◌≡◌, ◌<◌, ◌≤◌, ◌+◌, ◌^◌};
+ghost use Rattle.lf_model.specs.State.{advanced, with_register};
+ghost use Rattle.lf_model.specs.Step.{IsSound, state_of};
+
+use crate::operands::write_register;
+use crate::ports::Ports;
+use crate::program_counter::advance;
+use lf_model::control::Arch;
+
+/// The end of a load or an atomic: register `rd` gets a value, and the operation is counted.
+pub fn retire_with<P: Ports>(a: &mut Arch, rd: u8, value: u32, p: &mut P)
+    requires sound { IsSound a.old }
+    requires count { a.old.k + 1 < 2 ^ 32 }
+    requires register { rd < 32 }
+    ensures state { state_of a.new (P.seen p.new) ≡ advanced (with_register rd value (state_of a.old (P.seen p.old))) }
+    ensures sound { IsSound a.new }
+    ensures counts { (a.new.core ≡ a.old.core) × (a.new.n ≡ a.old.n) × (a.new.k ≡ a.old.k + 1) }
+    ensures site { (P.seen p.new).site ≡ (P.seen p.old).site }
+    ensures ops { (P.seen p.new).ops ≡ (P.seen p.old).ops }
+    ensures room { P.room p.old ≤ P.room p.new }
+{
+    write_register(a, rd, value, p);
+    advance(a);
+    a.k += 1;
+}
