@@ -1,5 +1,7 @@
+mod AtomicLemmas
 mod CheckLemmas
 mod CodeLemmas
 mod SizeLemmas
 mod LoadLemmas
 mod TrapLemmas
+mod TurnLemmas

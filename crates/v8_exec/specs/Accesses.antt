@@ -5,14 +5,20 @@ use Rattle.lf_model.specs.State.{State}
 use Rattle.lf_model.specs.Instructions.{operand_registers, stored_registers}
 use Rattle.lf_model.specs.Effect.{Site, Access, sum_of_operands}
 use Rattle.lf_model.specs.Memory.{stored_number}
-use Rattle.lf_model.specs.Step.{Seen, Parts, first_bad, access_row, looked, recorded}
+use Rattle.lf_model.specs.Effects.{effect}
+use Rattle.lf_model.specs.Run.{performed}
+use Rattle.lf_model.specs.Step.{Seen, Parts, state_of, run_seen, first_bad, access_row, looked, recorded, came_to}
 use Rattle.lf_model.specs.declared.bus.OpKind.TheVariants as kinds
 use Rattle.lf_model.specs.declared.instruction.MemName.{MemName}
 use Rattle.lf_model.specs.declared.instruction.MemName.TheVariants.{Ldd, Std}
+use Rattle.lf_model.specs.declared.control.Arch.{Arch}
+use Rattle.lf_model.specs.declared.instruction.Instr.{Instr}
+use Rattle.lf_model.specs.declared.instruction.Instr.TheVariants.{Mem, Alternate}
 use Rattle.lf_model.specs.declared.instruction.Src.{Src}
 use Rattle.lf_model.specs.declared.step.Did.{Did}
 use Rattle.lf_model.specs.declared.step.Did.TheVariants.{Need}
 use Rattle.lf_model.specs.declared.step.RegBad.{RegBad}
+use Rattle.lf_model.specs.declared.step.Turn.{Turn}
 use Rattle.lf_model.specs.declared.step.Turn.TheVariants.{Load, Atomic}
 use Rattle.v8_exec.specs.Reading.{IsAccess}
 use Rattle.v8_exec.specs.declared.operands.Request.{Request}
@@ -64,3 +70,17 @@ abbrev pub Asks : Site → Did → Type 0
 Asks site (Need (Load addr len why)) = IsAccess site addr len
 Asks site (Need (Atomic addr len new rd)) = IsAccess site addr len × (touches_text site.image.text addr len ≡ false) × (new < 2 ^ (8 * len)) × (rd < 32)
 Asks site _ = ⊤
+
+-- a load, store or atomic
+abbrev pub IsAccessing : Instr → Type 0
+IsAccessing (Mem name rd rs1 src) = ⊤
+IsAccessing (Alternate name rd rs1 rs2 asi) = ⊤
+IsAccessing _ = ⊥
+
+-- LDSTUB or SWAP, which needed this turn: once its operation is recorded, it is performed with the number that the turn read
+abbrev pub Finishes : Instr → Parts → Turn → ℕ → Arch → Arch → Seen → Seen → Type 0
+Finishes i parts (Atomic addr len new rd) got old next before after =
+    came_to parts (state_of old before) (effect before.site (state_of old before) i) ≡ Need (Atomic addr len new rd)
+    → run_seen next (recorded got (atomic_access addr len new rd) after)
+        ≡ performed before.site.core got (effect before.site (state_of old before) i) (run_seen old before)
+Finishes i parts _ got old next before after = ⊤

@@ -3,6 +3,7 @@ ghost use Rattle.lf_model.specs.Effects.{effect};
 ghost use Rattle.lf_model.specs.Instructions.{instruction_of};
 ghost use Rattle.lf_model.specs.Traps.{fetch_trap};
 ghost use Rattle.lf_model.specs.Step.{IsSound, state_of, run_seen, counted, Does};
+ghost use Rattle.v8_exec.specs.Accesses.{Asks, IsAccessing};
 ghost use Rattle.v8_exec.specs.Frame.{Keeps, Counts, Empties, Performs};
 ghost use Rattle.v8_exec.specs.Reading.{IsInstruction};
 
@@ -25,6 +26,7 @@ fn perform<P: Ports>(a: &mut Arch, instr: Instr, p: &mut P) -> Did
     ensures does { Performs instr (P.parts p.old) result a.old a.new (P.seen p.old) (P.seen p.new) }
     ensures keeps { Keeps a.old a.new (P.seen p.old) (P.seen p.new) (P.room p.old) (P.room p.new) }
     ensures empties { Empties instr result (P.caches_empty p.new) }
+    ensures turn { IsAccessing instr → Asks (P.seen p.old).site result }
 {
     match instr {
         Instr::Illegal => refuse::illegal(a, p),
@@ -84,6 +86,7 @@ pub fn exec<P: Ports>(a: &mut Arch, w: u32, p: &mut P) -> Did
     ensures does { Does (P.seen p.old).site.core (P.parts p.old) (effect (P.seen p.old).site (state_of a.old (P.seen p.old)) (instruction_of w)) result (run_seen a.old (P.seen p.old)) (run_seen a.new (P.seen p.new)) }
     ensures counts { Counts a.old a.new (P.seen p.old) (P.seen p.new) (P.room p.old) (P.room p.new) result }
     ensures empties { Empties (instruction_of w) result (P.caches_empty p.new) }
+    ensures turn { Asks (P.seen p.old).site result }
 {
     let did = perform(a, decoded(w), p);
     a.n += count(did);

@@ -25,4 +25,5 @@ pub use execute::{exec, fetch_trap};
 pub use lf_model::control::{Arch, Ctl};
 pub use lf_model::step::{Did, Turn};
 pub use ports::Ports;
+pub use retire::finish_atomic;
 pub use v8_windows::cell;

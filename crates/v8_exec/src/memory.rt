@@ -6,7 +6,7 @@ ghost use Rattle.lf_model.specs.Alternate.{is_plain_space, alternate_refused, co
 ghost use Rattle.lf_model.specs.Step.{IsSound, state_of};
 ghost use Rattle.lf_model.specs.declared.instruction.Instr.TheVariants.{Mem, Alternate};
 ghost use Rattle.v8_exec.specs.Frame.{Keeps, Makes, Performs};
-ghost use Rattle.v8_exec.specs.Accesses.{Looks};
+ghost use Rattle.v8_exec.specs.Accesses.{Asks, Looks};
 ghost use Rattle.v8_exec.specs.Reading.{IsSource, HasPair, IsAccess};
 
 use crate::operands::{Request, read_request, write_register};
@@ -100,6 +100,7 @@ fn look<P: Ports>(addr: u32, len: u8, p: &mut P) -> Result<u64, Did>
     requires access { IsAccess (P.seen p.old).site addr len }
     requires room { 0 < P.room p.old }
     ensures looks { Looks (P.parts p.old) addr len (P.seen p.old) (P.seen p.new) result }
+    ensures turn { IfErr result (Asks (P.seen p.old).site) }
     ensures fits { IfOk result (λ value. value < 2 ^ (8 * len)) }
     ensures room { P.room p.old ≤ P.room p.new + 1 }
 {
@@ -134,6 +135,7 @@ fn load<P: Ports>(a: &mut Arch, name: MemName, addr: u32, rd: u8, p: &mut P) -> 
     requires room { 0 < P.room p.old }
     ensures does { Makes (λ registers. load_effect registers name addr rd (state_of a.old (P.seen p.old))) (P.parts p.old) result a.old a.new (P.seen p.old) (P.seen p.new) }
     ensures keeps { Keeps a.old a.new (P.seen p.old) (P.seen p.new) (P.room p.old) (P.room p.new) }
+    ensures turn { Asks (P.seen p.old).site result }
 {
     match look(addr, size(name), p) {
         Ok(value) => {
@@ -153,6 +155,7 @@ fn load_double<P: Ports>(a: &mut Arch, addr: u32, rd: u8, p: &mut P) -> Did
     requires room { 0 < P.room p.old }
     ensures does { Makes (λ registers. load_double_effect registers addr rd (state_of a.old (P.seen p.old))) (P.parts p.old) result a.old a.new (P.seen p.old) (P.seen p.new) }
     ensures keeps { Keeps a.old a.new (P.seen p.old) (P.seen p.new) (P.room p.old) (P.room p.new) }
+    ensures turn { Asks (P.seen p.old).site result }
 {
     match look(addr, 8, p) {
         Ok(value) => {
@@ -175,6 +178,7 @@ fn store<P: Ports>(a: &mut Arch, name: MemName, addr: u32, rd: u8, value: u64, p
     requires room { 0 < P.room p.old }
     ensures does { Makes (λ registers. store_effect registers name addr rd (state_of a.old (P.seen p.old))) (P.parts p.old) result a.old a.new (P.seen p.old) (P.seen p.new) }
     ensures keeps { Keeps a.old a.new (P.seen p.old) (P.seen p.new) (P.room p.old) (P.room p.new) }
+    ensures turn { Asks (P.seen p.old).site result }
 {
     if p.store(addr, size(name), value).is_err() {
         return Did::Need(Turn::Drain(Why::Full));
@@ -191,6 +195,7 @@ fn output<P: Ports>(a: &mut Arch, rd: u8, value: u64, p: &mut P) -> Did
     requires room { 0 < P.room p.old }
     ensures does { Makes (λ registers. output_effect registers rd (state_of a.old (P.seen p.old))) (P.parts p.old) result a.old a.new (P.seen p.old) (P.seen p.new) }
     ensures keeps { Keeps a.old a.new (P.seen p.old) (P.seen p.new) (P.room p.old) (P.room p.new) }
+    ensures turn { Asks (P.seen p.old).site result }
 {
     p.out((value % 256) as u8);
     advance(a);
@@ -199,8 +204,13 @@ fn output<P: Ports>(a: &mut Arch, rd: u8, value: u64, p: &mut P) -> Did
 
 /// LDSTUB and SWAP: a turn on the bus, once no store waits.
 fn atomic<P: Ports>(a: &Arch, name: MemName, addr: u32, rd: u8, value: u32, p: &P) -> Did
+    requires register { rd < 32 }
+    requires access { IsAccess (P.seen p.now).site addr (size_of name) }
+    requires text { touches_text (P.seen p.now).site.image.text addr (size_of name) ≡ false }
+    requires fits { value < 2 ^ (8 * size_of name) }
     requires number { value ≡ stored_number name rd (state_of a.now (P.seen p.now)) }
     ensures does { Makes (λ registers. atomic_effect registers name addr rd (state_of a.now (P.seen p.now))) (P.parts p.now) result a.now a.now (P.seen p.now) (P.seen p.now) }
+    ensures turn { Asks (P.seen p.now).site result }
 {
     if p.waiting() {
         return Did::Need(Turn::Drain(Why::Atomic));
@@ -226,6 +236,7 @@ fn make<P: Ports>(a: &mut Arch, name: MemName, rd: u8, x: Request, p: &mut P) ->
     requires room { 0 < P.room p.old }
     ensures does { Makes (λ registers. mem_effect registers name x.addr rd (state_of a.old (P.seen p.old))) (P.parts p.old) result a.old a.new (P.seen p.old) (P.seen p.new) }
     ensures keeps { Keeps a.old a.new (P.seen p.old) (P.seen p.new) (P.room p.old) (P.room p.new) }
+    ensures turn { Asks (P.seen p.old).site result }
 {
     match name {
         MemName::Ldd => load_double(a, x.addr, rd, p),
@@ -251,6 +262,7 @@ pub fn access<P: Ports>(a: &mut Arch, name: MemName, rd: u8, rs1: u8, src: Src, 
     requires room { 0 < P.room p.old }
     ensures does { Performs (Mem name rd rs1 src) (P.parts p.old) result a.old a.new (P.seen p.old) (P.seen p.new) }
     ensures keeps { Keeps a.old a.new (P.seen p.old) (P.seen p.new) (P.room p.old) (P.room p.new) }
+    ensures turn { Asks (P.seen p.old).site result }
 {
     let x = match read_request(a, name, rd, rs1, src, p) {
         Ok(x) => x,
@@ -273,6 +285,7 @@ fn control<P: Ports>(a: &mut Arch, name: MemName, rd: u8, p: &mut P) -> Did
     requires register { rd < 32 }
     ensures does { Makes (λ registers. control_effect registers name rd (state_of a.old (P.seen p.old))) (P.parts p.old) result a.old a.new (P.seen p.old) (P.seen p.new) }
     ensures keeps { Keeps a.old a.new (P.seen p.old) (P.seen p.new) (P.room p.old) (P.room p.new) }
+    ensures turn { Asks (P.seen p.old).site result }
 {
     if name == MemName::Ld {
         write_register(a, rd, 0, p);
@@ -299,6 +312,7 @@ pub fn alternate<P: Ports>(
     requires room { 0 < P.room p.old }
     ensures does { Performs (Alternate name rd rs1 rs2 asi) (P.parts p.old) result a.old a.new (P.seen p.old) (P.seen p.new) }
     ensures keeps { Keeps a.old a.new (P.seen p.old) (P.seen p.new) (P.room p.old) (P.room p.new) }
+    ensures turn { Asks (P.seen p.old).site result }
 {
     let x = match read_request(a, name, rd, rs1, Src::Reg(rs2), p) {
         Ok(x) => x,

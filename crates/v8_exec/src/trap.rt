@@ -3,6 +3,8 @@ ghost use Rattle.lf_model.specs.Traps.{trap_effect, traps_in_order};
 ghost use Rattle.lf_model.specs.Traps.{first_trap as first_of};
 ghost use Rattle.lf_model.specs.Step.{IsSound, state_of, run_seen, drains_first, Does};
 ghost use Rattle.lf_model.specs.declared.bus.Why.TheVariants.{End};
+ghost use Rattle.lf_model.specs.Effect.{Site};
+ghost use Rattle.v8_exec.specs.Accesses.{Asks};
 ghost use Rattle.v8_exec.specs.Frame.{Keeps, Makes};
 
 use crate::ports::Ports;
@@ -46,6 +48,7 @@ pub fn take<P: Ports>(a: &mut Arch, tt: u8, p: &mut P) -> Did
     requires sound { IsSound a.old }
     ensures does { Makes (λ registers. trap_effect tt registers (state_of a.old (P.seen p.old))) (P.parts p.old) result a.old a.new (P.seen p.old) (P.seen p.new) }
     ensures keeps { Keeps a.old a.new (P.seen p.old) (P.seen p.new) (P.room p.old) (P.room p.new) }
+    ensures turn { (site : Site) → Asks site result }
 {
     match v8_traps::enter(&mut a.ctl, tt) {
         Entered::Vectored { window, pc, npc } => {

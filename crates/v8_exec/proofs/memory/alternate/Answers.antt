@@ -38,3 +38,6 @@ returns-in-Some-clause-does g c =
     trap_does seen.site.core parts (ordinary_trap seen.site s i) c.in-Some.tt s (alternate_effect (registers_read i) c.args.name c.args.asi (sum_of_operands s c.args.rs1 (Reg c.args.rs2)) c.args.rd s) (registers_read i) c.take.result (run_seen c.args.a.now seen) (run_seen c.take.new.a (g.P.Ports.seen c.take.new.p))
     (trap ∙ sym value ∙ c.in-Some.is) (alternate_effect-reads (registers_read i) c.args.name c.args.asi (sum_of_operands s c.args.rs1 (Reg c.args.rs2)) c.args.rd s)
     (rw (sym c.read_request.ensures.seen) (rw (sym c.read_request.ensures.parts) (c.take.ensures.does (registers_read i) good)))
+
+pub returns-in-Some-clause-turn : goal.returns-in-Some-clause-turn
+returns-in-Some-clause-turn g c = c.take.ensures.turn (g.P.Ports.seen c.args.p.now).site
