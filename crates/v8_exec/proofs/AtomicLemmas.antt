@@ -215,6 +215,7 @@ kind-atomic parts a x kinds.Atomic k is = by_waiting parts.waiting is
   where
     same : a ≡ atomic_access a.addr a.len a.put a.rd
     same = of_kind a k
+
     by_waiting : (b : Bool) → atomic_of (cond b (Need (Drain whys.Atomic)) (Need (Atomic a.addr a.len a.put a.rd))) ≡ Some x → a ≡ x
     by_waiting true h = absurd (cc)
     by_waiting false h = same ∙ some_same (atomic_access a.addr a.len a.put a.rd) x h
@@ -230,8 +231,8 @@ pub needs_atomic : (parts : Parts) (s : State) (e : Effect) (addr len new rd : �
 needs_atomic parts s e addr len new rd is =
     access-atomic parts e.access (atomic_access addr len new rd)
     (rows-atomic (stop_row parts (first_bad parts s.ctl.cwp e.reads)) (trap_row parts s.ctl.et e.trap) (access_row parts e.access) (barrier_row parts e.barrier)
-        (atomic_access addr len new rd) (stop_row-atomic parts (first_bad parts s.ctl.cwp e.reads)) (trap_row-atomic parts s.ctl.et e.trap)
-        (barrier_row-atomic parts e.barrier) (ap atomic_of is))
+    (atomic_access addr len new rd) (stop_row-atomic parts (first_bad parts s.ctl.cwp e.reads)) (trap_row-atomic parts s.ctl.et e.trap)
+    (barrier_row-atomic parts e.barrier) (ap atomic_of is))
 
 same_run : (s t : State) (p q : List Entry) → s ≡ t → p ≡ q → ◌≡◌ {A = Run} (record { state = s; ops = p }) (record { state = t; ops = q })
 same_run s t p q states ops = rw states (rw ops refl)
@@ -247,5 +248,5 @@ finished i parts addr len new rd got old next before after state ops site is =
     (with_access after.site.core got (Some (atomic_access addr len new rd)) after.ops) (with_access before.site.core got e.access before.ops)
     (state ∙ sym ((ends_effect before.site s i).ends addr len new rd got access))
     (ap (λ (l : List Entry). with_access after.site.core got (Some (atomic_access addr len new rd)) l) ops
-        ∙ ap (λ (t : Site). with_access t.core got (Some (atomic_access addr len new rd)) before.ops) site
-        ∙ ap (λ (x : Option Access). with_access before.site.core got x before.ops) (sym access))
+    ∙ ap (λ (t : Site). with_access t.core got (Some (atomic_access addr len new rd)) before.ops) site
+    ∙ ap (λ (x : Option Access). with_access before.site.core got x before.ops) (sym access))

@@ -56,7 +56,7 @@ load_does seen mid after parts a b name addr rd len got value registers size rea
     operation_does seen mid after parts a b (load_access addr (size_of name) rd) (cell_written (state_of a seen) rd) next got registers
     (here.hit rd) here.read (here.made rd)
     (state ∙ ap (λ (v : ℕ). advanced (with_register rd v (state_of a mid))) is
-        ∙ ap (λ (t : Seen). advanced (with_register rd (extended name got) (state_of a t))) (here.made rd))
+    ∙ ap (λ (t : Seen). advanced (with_register rd (extended name got) (state_of a t))) (here.made rd))
     ops good
 
 -- LDD, which writes two registers
@@ -68,9 +68,9 @@ pub load_double_does : (seen mid wrote after : Seen) (parts : Parts) (a b : Arch
 load_double_does seen mid wrote after parts a b addr rd got high low registers reads high_is low_is first first_ops second second_ops good =
     let next : ℕ → State = λ v. advanced (with_words rd v (state_of a seen)) in
     let one : state_of a wrote ≡ with_register rd (got / 2 ^ 32) (state_of a seen) = first ∙ ap (λ (v : ℕ). with_register rd v (state_of a mid)) high_is
-        ∙ ap (λ (t : Seen). with_register rd (got / 2 ^ 32) (state_of a t)) (reads.made rd) in
+    ∙ ap (λ (t : Seen). with_register rd (got / 2 ^ 32) (state_of a t)) (reads.made rd) in
     operation_does seen mid after parts a b (load_access addr 8 rd) (cell_written (state_of a seen) rd ++ cell_written (state_of a seen) (rd + 1)) next got registers
     (reads.hit rd) reads.read (reads.made rd)
     (second ∙ ap (λ (v : ℕ). advanced (with_register (rd + 1) v (state_of a wrote))) low_is
-        ∙ ap (λ (t : State). advanced (with_register (rd + 1) (got % 2 ^ 32) t)) one)
+    ∙ ap (λ (t : State). advanced (with_register (rd + 1) (got % 2 ^ 32) t)) one)
     (second_ops ∙ first_ops) good

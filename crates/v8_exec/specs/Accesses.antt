@@ -82,5 +82,5 @@ abbrev pub Finishes : Instr → Parts → Turn → ℕ → Arch → Arch → See
 Finishes i parts (Atomic addr len new rd) got old next before after =
     came_to parts (state_of old before) (effect before.site (state_of old before) i) ≡ Need (Atomic addr len new rd)
     → run_seen next (recorded got (atomic_access addr len new rd) after)
-        ≡ performed before.site.core got (effect before.site (state_of old before) i) (run_seen old before)
+    ≡ performed before.site.core got (effect before.site (state_of old before) i) (run_seen old before)
 Finishes i parts _ got old next before after = ⊤

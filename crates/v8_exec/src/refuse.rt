@@ -29,7 +29,10 @@ pub fn illegal<P: Ports>(a: &mut Arch, p: &mut P) -> Did
     ensures does { Performs Illegal (P.parts p.old) result a.old a.new (P.seen p.old) (P.seen p.new) }
     ensures keeps { Keeps a.old a.new (P.seen p.old) (P.seen p.new) (P.room p.old) (P.room p.new) }
 {
-    let checks = Checks { illegal: true, ..Checks::default() };
+    let checks = Checks {
+        illegal: true,
+        ..Checks::default()
+    };
     trap::refuse(a, checks, p)
 }
 
@@ -40,7 +43,10 @@ pub fn illegal_alternate<P: Ports>(a: &mut Arch, p: &mut P) -> Did
     ensures does { Performs AltIllegal (P.parts p.old) result a.old a.new (P.seen p.old) (P.seen p.new) }
     ensures keeps { Keeps a.old a.new (P.seen p.old) (P.seen p.new) (P.room p.old) (P.room p.new) }
 {
-    let checks = Checks { illegal: true, ..privileged(a) };
+    let checks = Checks {
+        illegal: true,
+        ..privileged(a)
+    };
     trap::refuse(a, checks, p)
 }
 
@@ -51,7 +57,10 @@ pub fn floating_point<P: Ports>(a: &mut Arch, p: &mut P) -> Did
     ensures does { Performs FpOff (P.parts p.old) result a.old a.new (P.seen p.old) (P.seen p.new) }
     ensures keeps { Keeps a.old a.new (P.seen p.old) (P.seen p.new) (P.room p.old) (P.room p.new) }
 {
-    let checks = Checks { fp_off: true, ..Checks::default() };
+    let checks = Checks {
+        fp_off: true,
+        ..Checks::default()
+    };
     trap::refuse(a, checks, p)
 }
 
@@ -62,7 +71,10 @@ pub fn floating_point_queue<P: Ports>(a: &mut Arch, p: &mut P) -> Did
     ensures does { Performs FpQueue (P.parts p.old) result a.old a.new (P.seen p.old) (P.seen p.new) }
     ensures keeps { Keeps a.old a.new (P.seen p.old) (P.seen p.new) (P.room p.old) (P.room p.new) }
 {
-    let checks = Checks { fp_off: true, ..privileged(a) };
+    let checks = Checks {
+        fp_off: true,
+        ..privileged(a)
+    };
     trap::refuse(a, checks, p)
 }
 
@@ -73,7 +85,10 @@ pub fn coprocessor<P: Ports>(a: &mut Arch, p: &mut P) -> Did
     ensures does { Performs CpOff (P.parts p.old) result a.old a.new (P.seen p.old) (P.seen p.new) }
     ensures keeps { Keeps a.old a.new (P.seen p.old) (P.seen p.new) (P.room p.old) (P.room p.new) }
 {
-    let checks = Checks { cp_off: true, ..Checks::default() };
+    let checks = Checks {
+        cp_off: true,
+        ..Checks::default()
+    };
     trap::refuse(a, checks, p)
 }
 
@@ -84,6 +99,9 @@ pub fn coprocessor_queue<P: Ports>(a: &mut Arch, p: &mut P) -> Did
     ensures does { Performs CpQueue (P.parts p.old) result a.old a.new (P.seen p.old) (P.seen p.new) }
     ensures keeps { Keeps a.old a.new (P.seen p.old) (P.seen p.new) (P.room p.old) (P.room p.new) }
 {
-    let checks = Checks { cp_off: true, ..privileged(a) };
+    let checks = Checks {
+        cp_off: true,
+        ..privileged(a)
+    };
     trap::refuse(a, checks, p)
 }

@@ -1,15 +1,18 @@
-ghost use Rattle.std.specs.Prelude.{◌≡◌, ◌<◌, IfOk, vec_len};
+ghost use Rattle.std.specs.Prelude.{◌≡◌, ◌<◌, ◌≤◌, ◌+◌, ◌*◌, ◌/◌, ◌^◌, ◌==◌, ◌++◌, ◌∷◌, [], IfOk, vec_len, if◌then◌else◌};
 ghost use Rattle.std.specs.Vec.{vec_capacity};
 ghost use Rattle.lf_model.specs.Step.{IsSound};
 
 use crate::{Arch, Ctl, Did, Ports, Turn, cell, exec, fetch_trap};
 use lf_model::addresses;
-use lf_model::bus::Why;
-use lf_model::image::{Image, Ranges, Segments};
+use lf_model::bus::{Entry, OpKind, Why};
+use lf_model::image::{Image, Range, Ranges, Segments};
 use lf_model::step::{Full, Look, RegBad};
 use std::alloc::{AllocError, Global};
 use std::process::Abort;
 use std::test::Fail;
+
+mod accesses;
+mod windows;
 
 /// PC, and nPC, which is not the next word.
 const PC: u32 = 0x4000_0010;
@@ -29,27 +32,71 @@ fn of_registers(op3: u32) -> u32
     0x8600_4002 + (op3 << 19)
 }
 
-/// Registers that read well, a data cache that misses, a full store buffer that drains by itself, and an image
-/// without text.
+/// Registers that read well, no store that waits, and an image with text at 40000800 hex. Where it grants, the data
+/// cache hits and reads the first bytes of `memory` at each address, and the store buffer has room; else the cache
+/// misses, and the buffer is full.
 #[derive(Drop)]
 struct Bench {
     cells: [u32; 136],
     out: Vec<u8>,
+    ops: Vec<Entry>,
     image: Image,
+    grants: bool,
+    memory: u64,
     flushed: bool,
 }
 
+impl Bench {
+    fn record(&mut self, got: u64, put: u64, addr: u32, kind: OpKind, len: u8)
+        requires room { vec_len self.old.ops < vec_capacity self.old.ops }
+        requires number { vec_len self.old.ops < 2 ^ 32 }
+        ensures ops { self.new.ops.items ≡ self.old.ops.items ++ record { got = got; put = put; core = 3; k = vec_len self.old.ops; addr = addr; kind = kind; len = len } ∷ [] }
+        ensures room { vec_capacity self.old.ops ≤ vec_capacity self.new.ops }
+        ensures len { vec_len self.new.ops ≡ vec_len self.old.ops + 1 }
+        ensures others { (self.new.cells ≡ self.old.cells) × (self.new.out ≡ self.old.out) × (self.new.image ≡ self.old.image) }
+    {
+        let entry = Entry {
+            got,
+            put,
+            core: 3,
+            k: self.ops.len() as u32,
+            addr,
+            kind,
+            len,
+        };
+        if self.ops.push(entry).is_err() {
+            unreachable!()
+        }
+    }
+}
+
+/// The first bytes of a doubleword.
+fn front(memory: u64, len: u8) -> u64
+    ensures value { result ≡ (if len == 1 then memory / 2 ^ 56 else (if len == 2 then memory / 2 ^ 48 else (if len == 4 then memory / 2 ^ 32 else (if len == 8 then memory else 0)))) }
+    ensures fits { result < 2 ^ (8 * len) }
+{
+    match len {
+        1 => memory >> 56,
+        2 => memory >> 48,
+        4 => memory >> 32,
+        8 => memory,
+        _ => 0,
+    }
+}
+
 impl Ports for Bench {
-    ghost use Rattle.std.specs.Prelude.{◌-◌, [], None, true, false, vec_len};
+    ghost use Rattle.std.specs.Prelude.{◌≡◌, ◌-◌, ◌/◌, ◌^◌, ◌==◌, min, None, true, false, vec_len, if◌then◌else◌};
     ghost use Rattle.std.specs.Vec.{vec_capacity};
     ghost use Rattle.lf_model.specs.declared.bus.Why.TheVariants as whys;
-    ghost use Rattle.lf_model.specs.declared.step.Look.TheVariants.{Miss};
+    ghost use Rattle.lf_model.specs.declared.step.Look.TheVariants.{Hit, Miss};
 
-    ghost seen = { λ p. record { site = record { core = 3; image = p.image; ram = 4096 }; cells = p.cells; out = p.out.items; ops = [] } };
+    ghost seen = { λ p. record { site = record { core = 3; image = p.image; ram = 4096 }; cells = p.cells; out = p.out.items; ops = p.ops.items } };
 
-    ghost parts = { λ _. record { bad = λ c. None; look = λ addr len. Miss whys.Absent; full = true; waiting = false } };
+    ghost parts = { λ p. record { bad = λ c. None; look = λ addr len. if p.grants then Hit (if len == 1 then p.memory / 2 ^ 56 else (if len == 2 then p.memory / 2 ^ 48 else (if len == 4 then p.memory / 2 ^ 32 else (if len == 8 then p.memory else 0)))) 0 else Miss whys.Absent; full = if p.grants then false else true; waiting = false } };
 
-    ghost room = { λ p. vec_capacity p.out - vec_len p.out };
+    ghost caches_empty = { λ p. p.flushed ≡ true };
+
+    ghost room = { λ p. min (min (vec_capacity p.ops - vec_len p.ops) (2 ^ 32 - 1 - vec_len p.ops)) (vec_capacity p.out - vec_len p.out) };
 
     fn reg(&mut self, cell: usize) -> Result<u32, RegBad> {
         Ok(self.cells[cell])
@@ -59,12 +106,21 @@ impl Ports for Bench {
         self.cells[cell] = v;
     }
 
-    fn load(&mut self, _addr: u32, _len: u8) -> Look {
-        Look::Miss(Why::Absent)
+    fn load(&mut self, addr: u32, len: u8) -> Look {
+        if !self.grants {
+            return Look::Miss(Why::Absent);
+        }
+        let value = front(self.memory, len);
+        self.record(value, 0, addr, OpKind::Load, len);
+        Look::Hit { value, way: 0 }
     }
 
-    fn store(&mut self, _addr: u32, _len: u8, _value: u64) -> Result<(), Full> {
-        Err(Full)
+    fn store(&mut self, addr: u32, len: u8, value: u64) -> Result<(), Full> {
+        if !self.grants {
+            return Err(Full);
+        }
+        self.record(0, value, addr, OpKind::Store, len);
+        Ok(())
     }
 
     fn waiting(&self) -> bool {
@@ -106,12 +162,14 @@ const ZEROS: Start = Start {
     y: 0,
 };
 
-/// What an instruction came to and left.
+/// What an instruction came to and left: the output byte and the operation, if there are any.
 #[derive(Clone, Copy)]
 struct Outcome {
     did: Did,
     arch: Arch,
     cells: [u32; 136],
+    out: Option<u8>,
+    op: Option<Entry>,
     flushed: bool,
 }
 
@@ -142,34 +200,63 @@ fn arch_of(start: Start, et: bool) -> Arch
 }
 
 fn bench_of(alloc: Global, start: Start) -> Result<Bench, AllocError>
-    ensures room { IfOk result (λ p. vec_len p.out < vec_capacity p.out) }
+    ensures out { IfOk result (λ p. vec_len p.out < vec_capacity p.out) }
+    ensures ops { IfOk result (λ p. vec_len p.ops < vec_capacity p.ops) }
+    ensures none { IfOk result (λ p. vec_len p.ops ≡ 0) }
 {
     let mut cells = [0u32; 136];
     cells[1] = start.a;
     cells[2] = start.b;
+    let mut text = Ranges::new(alloc);
+    text.push(Range {
+        first: 0x4000_0800,
+        length: 16,
+    })?;
     Ok(Bench {
         cells,
         out: Vec::with_capacity(alloc, 1)?,
+        ops: Vec::with_capacity(alloc, 1)?,
         image: Image {
             entry: PC,
             segments: Segments::new(alloc),
-            text: Ranges::new(alloc),
+            text,
         },
+        grants: false,
+        memory: 0x8091_a2b3_c4d5_e6f7,
         flushed: false,
     })
 }
 
-/// One instruction word from a start, with traps enabled or not.
-fn after(alloc: Global, word: u32, start: Start, et: bool) -> Result<Outcome, AllocError> {
-    let mut arch = arch_of(start, et);
+/// One instruction word of a core in some state.
+fn made(
+    alloc: Global,
+    word: u32,
+    start: Start,
+    arch: Arch,
+    grants: bool,
+) -> Result<Outcome, AllocError>
+    requires sound { IsSound arch }
+    requires core { arch.core ≡ 3 }
+    requires n { arch.n ≡ 0 }
+    requires k { arch.k ≡ 0 }
+{
+    let mut arch = arch;
     let mut bench = bench_of(alloc, start)?;
+    bench.grants = grants;
     let did = exec(&mut arch, word, &mut bench);
     Ok(Outcome {
         did,
         arch,
         cells: bench.cells,
+        out: bench.out.first().copied(),
+        op: bench.ops.first().copied(),
         flushed: bench.flushed,
     })
+}
+
+/// One instruction word from a start, with traps enabled or not.
+fn after(alloc: Global, word: u32, start: Start, et: bool) -> Result<Outcome, AllocError> {
+    made(alloc, word, start, arch_of(start, et), false)
 }
 
 /// Operands, icc and Y.
@@ -310,7 +397,7 @@ const OTHERS: [(u32, u32, u32, u32, u32); 13] = [
 ];
 
 /// Words that trap with these operands, and the trap type.
-const TRAPS: [(u32, u32, u32, u8); 17] = [
+const TRAPS: [(u32, u32, u32, u8); 41] = [
     // UNIMP, op2 = 1, op3 = 9, RDASR of 18, STBAR with rd = 1, WRASR of 1
     (0x0000_0000, 0, 0, 0x02),
     (0x0040_0000, 0, 0, 0x02),
@@ -333,28 +420,34 @@ const TRAPS: [(u32, u32, u32, u8); 17] = [
     (0x86f8_4002, 1, 0, 0x2a),
     // TA
     (0x91d0_4002, 0xffff_ffff, 0x80, 0xff),
-];
-
-/// Words that are not built: SAVE, RESTORE, RETT, RDPSR, RDWIM, RDTBR, WRPSR, WRWIM, WRTBR; LDUB, LDD with an odd
-/// rd, LDSTUB, LDA, LDF, LDC, STDFQ, and op = 3 with op3 = 3f.
-const UNBUILT: [u32; 17] = [
-    0x81e0_2000,
-    0x81e8_2000,
-    0x81c8_2000,
-    0x8148_0000,
-    0x8150_0000,
-    0x8158_0000,
-    0x8188_0000,
-    0x8190_0000,
-    0x8198_0000,
-    0xc008_0000,
-    0xc218_0000,
-    0xc068_0000,
-    0xc080_0000,
-    0xc100_0000,
-    0xc180_0000,
-    0xc130_0000,
-    0xc1f8_0000,
+    // STDFQ, STDCQ, op = 3 with op3 = 3f; LDD, LDDA and STD with an odd rd, and LDA with an immediate operand
+    (0xc130_0000, 0, 0, 0x04),
+    (0xc1b0_0000, 0, 0, 0x24),
+    (0xc1f8_0000, 0, 0, 0x02),
+    (0xc218_0000, 0x4000_0001, 0, 0x02),
+    (0xc298_0000, 0x4000_0001, 0, 0x02),
+    (0xc238_0000, 0x4000_0001, 0, 0x02),
+    (0xc680_6000, 0x4000_0001, 0, 0x02),
+    // LDUH, LDSH, STH, LD, SWAP, LDD and STD, each at half of its size; LDD outside RAM, too
+    (0xc610_6000, 0x4000_0001, 0, 0x07),
+    (0xc650_6000, 0x4000_0001, 0, 0x07),
+    (0xc630_6000, 0x4000_0001, 0, 0x07),
+    (0xc600_6000, 0x4000_0002, 0, 0x07),
+    (0xc678_6000, 0x4000_0802, 0, 0x07),
+    (0xc818_6000, 0x4000_0004, 0, 0x07),
+    (0xc838_6000, 0x4000_0804, 0, 0x07),
+    (0xc818_6000, 0x0000_0004, 0, 0x07),
+    // LDUB behind RAM, STB on the last byte of text, LDSTUB on text and before RAM, SWAP and STH at the output word
+    (0xc608_6000, 0x4000_1000, 0, 0x09),
+    (0xc628_6000, 0x4000_080f, 0, 0x09),
+    (0xc668_6000, 0x4000_0800, 0, 0x09),
+    (0xc668_6000, 0x3fff_ffff, 0, 0x09),
+    (0xc678_6000, 0x8000_0100, 0, 0x09),
+    (0xc630_6000, 0x8000_0100, 0, 0x09),
+    // LDA with ASI 0c; with ASI 02 LDUBA, SWAPA, and LDA at half of its size
+    (0xc680_4180, 0x4000_0000, 0, 0x09),
+    (0xc688_4040, 0x4000_0000, 0, 0x09),
+    (0xc680_4040, 0x4000_0002, 0, 0x07),
 ];
 
 #[test]
@@ -491,11 +584,6 @@ fn traps(rt: HostRuntime) -> Result<(), Fail> {
         assert_eq!(rt; entry.arch.ctl.pc, 0x4000_1000 + u32::from(tt) * 16);
         assert_eq!(rt; entry.cells[cell(7, 17)], PC);
         assert_eq!(rt; entry.cells[cell(7, 18)], NPC);
-    }
-    for word in UNBUILT {
-        let out = after(rt.alloc(), word, ZEROS, false)?;
-        assert!(rt; matches!(out.did, Did::Unbuilt), "{word:08x} is not built");
-        assert_eq!(rt; out.arch.n, 0);
     }
     let mut arch = arch_of(ZEROS, false);
     let mut bench = bench_of(rt.alloc(), ZEROS)?;
