@@ -82,11 +82,6 @@ fn put_end_fields(text: &mut Vec<u8>, n: u64, steps: u64, end: CoreEnd) -> Resul
             put_number(text, SPACE, n)?;
             put_number(text, LINE_FEED, steps)
         }
-        CoreEnd::Unbuilt => {
-            put(text, b"unbuilt ")?;
-            put_number(text, SPACE, n)?;
-            put_number(text, LINE_FEED, steps)
-        }
     }
 }
 

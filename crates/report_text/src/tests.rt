@@ -26,7 +26,7 @@ end
 
 /// A line of each kind.
 const EACH_KIND: &str = "leon3ft report 1
-cores 4
+cores 3
 core 0 stop 09 2 4 1 05
 out 0 -
 g 0 00000000 -------- 00000000 00000000 00000000 00000000 00000000 00000000
@@ -51,14 +51,6 @@ l 2 00000000 00000000 00000000 00000000 00000000 00000000 00000000 00000000
 i 2 00000000 00000000 00000000 00000000 00000000 00000000 00000000 00000000
 ctl 2 F3000080 00000002 00000000 00000000 40000008 4000000C
 parity 2 0 0 0 0
-core 3 unbuilt 0 1
-out 3 -
-g 3 00000000 00000000 00000000 00000000 00000000 00000000 00000000 00000000
-o 3 00000000 00000000 00000000 00000000 00000000 00000000 00000000 00000000
-l 3 00000000 00000000 00000000 00000000 00000000 00000000 00000000 00000000
-i 3 00000000 00000000 00000000 00000000 00000000 00000000 00000000 00000000
-ctl 3 F3000080 00000002 00000000 00000000 40000008 4000000C
-parity 3 0 0 0 0
 ahb 40001000 00000302
 transfers 11
 t 0 0 0 fetch absent 40000000 0 0000000000000000
@@ -220,9 +212,8 @@ fn cores_of_each_end(alloc: Global) -> Result<Vec<CoreResult>, AllocError> {
         ..NO_ERRORS
     };
     let at_the_limit = core(alloc, CoreEnd::Limit, 3, 4, pc)?;
-    let not_built = core(alloc, CoreEnd::Unbuilt, 0, 1, pc)?;
     let mut cores = Vec::new(alloc);
-    for core in [at_a_load, at_a_drain, at_the_limit, not_built] {
+    for core in [at_a_load, at_a_drain, at_the_limit] {
         cores.push(core)?;
     }
     Ok(cores)

@@ -93,7 +93,7 @@ fn is_stop(end: CoreEnd, turn: u32) -> bool
 {
     match end {
         CoreEnd::Stop { tt, place, .. } => place == turn && (tt == 0x09 || tt == 0x2b),
-        CoreEnd::Halt(_) | CoreEnd::Limit | CoreEnd::Unbuilt => false,
+        CoreEnd::Halt(_) | CoreEnd::Limit => false,
     }
 }
 
