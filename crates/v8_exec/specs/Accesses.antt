@@ -1,5 +1,5 @@
 -- What loads, stores and atomics need of the fields of their instruction, read from its registers, and ask of the bus.
-use Rattle.std.specs.Prelude.{ℕ, ◌≡◌, ◌+◌, ◌*◌, ◌^◌, ◌<◌, ⊤, ◌++◌, List, Some, None, Result, Ok, Err, false}
+use Rattle.std.specs.Prelude.{ℕ, ◌≡◌, ◌+◌, ◌*◌, ◌^◌, ◌<◌, ⊤, ◌++◌, List, Some, None, Result, Ok, Err, false, true, Bool, ◌==◌, ◌||◌}
 use Rattle.lf_model.specs.Start.{touches_text}
 use Rattle.lf_model.specs.State.{State}
 use Rattle.lf_model.specs.Instructions.{operand_registers, stored_registers}
@@ -64,11 +64,15 @@ Looks parts addr len before after (Err did) = Misses parts addr len before after
 abbrev pub atomic_access : ℕ → ℕ → ℕ → ℕ → Access
 atomic_access addr len new rd = record { kind = kinds.Atomic; addr = addr; len = len; put = new; rd = rd }
 
+-- an atomic is of a byte or a word
+abbrev pub is_atomic_size : ℕ → Bool
+is_atomic_size len = len == 1 || len == 4
+
 -- a turn on the bus that is asked for is of an access to RAM; an atomic changes no text, and has a number of so many bytes
 -- and a register
 abbrev pub Asks : Site → Did → Type 0
 Asks site (Need (Load addr len why)) = IsAccess site addr len
-Asks site (Need (Atomic addr len new rd)) = IsAccess site addr len × (touches_text site.image.text addr len ≡ false) × (new < 2 ^ (8 * len)) × (rd < 32)
+Asks site (Need (Atomic addr len new rd)) = IsAccess site addr len × (is_atomic_size len ≡ true) × (touches_text site.image.text addr len ≡ false) × (new < 2 ^ (8 * len)) × (rd < 32)
 Asks site _ = ⊤
 
 -- a load, store or atomic

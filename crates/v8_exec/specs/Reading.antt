@@ -1,5 +1,5 @@
 -- What reading registers through the ports answers: the values, or the first register that reads bad.
-use Rattle.std.specs.Prelude.{ℕ, ◌≡◌, ◌<◌, ◌≤◌, ◌%◌, true, ◌+◌, ◌*◌, ◌^◌, ⊤, Some, None, Result, Ok, Err}
+use Rattle.std.specs.Prelude.{ℕ, ◌≡◌, ◌<◌, ◌≤◌, ◌%◌, ◌==◌, ◌||◌, Bool, true, ◌+◌, ◌*◌, ◌^◌, ⊤, Some, None, Result, Ok, Err}
 use Rattle.lf_model.specs.State.{State, register, operand}
 use Rattle.lf_model.specs.Start.{is_in_ram}
 use Rattle.lf_model.specs.Instructions.{operand_registers}
@@ -66,8 +66,13 @@ abbrev pub FitsLook : ℕ → Look → Type 0
 FitsLook len (Hit value way) = value < 2 ^ (8 * len)
 FitsLook len (Miss why) = ⊤
 
--- an access to RAM: at most eight bytes, at a multiple of their number, all of them in RAM
+-- a byte, half, word or doubleword
+abbrev pub is_access_size : ℕ → Bool
+is_access_size len = len == 1 || len == 2 || len == 4 || len == 8
+
+-- an access to RAM: so many bytes, at a multiple of their number, all of them in RAM
 pub record IsAccess (site : Site) (addr len : ℕ) : Type 0 where
+  pub size : is_access_size len ≡ true
   pub short : len ≤ 8
   pub aligned : addr % len ≡ 0
   pub within : is_in_ram site.ram addr len ≡ true

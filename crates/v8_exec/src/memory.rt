@@ -6,7 +6,7 @@ ghost use Rattle.lf_model.specs.Alternate.{is_plain_space, alternate_refused, co
 ghost use Rattle.lf_model.specs.Step.{IsSound, state_of};
 ghost use Rattle.lf_model.specs.declared.instruction.Instr.TheVariants.{Mem, Alternate};
 ghost use Rattle.v8_exec.specs.Frame.{Keeps, Makes, Performs};
-ghost use Rattle.v8_exec.specs.Accesses.{Asks, Looks};
+ghost use Rattle.v8_exec.specs.Accesses.{Asks, Looks, is_atomic_size};
 ghost use Rattle.v8_exec.specs.Reading.{IsSource, HasPair, IsAccess};
 
 use crate::operands::{Request, read_request, write_register};
@@ -206,6 +206,7 @@ fn output<P: Ports>(a: &mut Arch, rd: u8, value: u64, p: &mut P) -> Did
 fn atomic<P: Ports>(a: &Arch, name: MemName, addr: u32, rd: u8, value: u32, p: &P) -> Did
     requires register { rd < 32 }
     requires access { IsAccess (P.seen p.now).site addr (size_of name) }
+    requires one { is_atomic_size (size_of name) ≡ true }
     requires text { touches_text (P.seen p.now).site.image.text addr (size_of name) ≡ false }
     requires fits { value < 2 ^ (8 * size_of name) }
     requires number { value ≡ stored_number name rd (state_of a.now (P.seen p.now)) }
