@@ -1,16 +1,16 @@
 -- LDSTUB and SWAP: the effect of an instruction whose operation is an atomic.
-use Rattle.std.proofs.Common.{◌≡◌, ℕ, ◌∷◌, [], List, Bool, cond, true, false, Option, Some, None, unwrap_or, refl, sym, ap, subst, ◌∙◌, ◌==◌}
+use Rattle.std.proofs.Common.{◌≡◌, ℕ, ◌∷◌, [], List, Bool, cond, true, false, Option, Some, None, unwrap_or, refl, sym, ap, ◌∙◌, ◌==◌}
 use Rattle.lf_model.specs.Start.{output_word}
 use Rattle.lf_model.specs.State.{State, advanced, with_register}
 use Rattle.lf_model.specs.Instructions.{registers_read}
 use Rattle.lf_model.specs.Effect.{Site, Access, Effect, sum_of_operands}
 use Rattle.lf_model.specs.Traps.{unless_trap}
 use Rattle.lf_model.specs.Memory.{output_effect, store_effect, mem_effect}
-use Rattle.lf_model.specs.Alternate.{is_plain_space, control_effect, alternate_effect}
+use Rattle.lf_model.specs.Alternate.{is_plain_space, control_effect}
 use Rattle.lf_model.specs.OrdinaryTraps.{ordinary_trap}
 use Rattle.lf_model.specs.Effects.{completed, effect}
-use Rattle.lf_model.specs.Run.{Run, performed, with_access}
-use Rattle.lf_model.specs.Step.{Seen, Parts, state_of, run_seen, recorded, first_bad, came_to, stop_row, trap_row, miss_row, kind_row, access_row, barrier_row, first_row}
+use Rattle.lf_model.specs.Run.{Run, with_access}
+use Rattle.lf_model.specs.Step.{Seen, Parts, state_of, first_bad, came_to, stop_row, trap_row, miss_row, kind_row, access_row, barrier_row, first_row}
 use Rattle.lf_model.specs.declared.bus.Entry.{Entry}
 use Rattle.lf_model.specs.declared.bus.OpKind.{OpKind}
 use Rattle.lf_model.specs.declared.bus.OpKind.TheVariants as kinds

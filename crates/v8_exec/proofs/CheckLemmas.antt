@@ -1,5 +1,5 @@
 -- The first trap of an instruction that has only some.
-use Rattle.std.proofs.Common.{◌≡◌, Bool, true, false, Option, None, ℕ, refl, subst}
+use Rattle.std.proofs.Common.{◌≡◌, Bool, false, Option, None, ℕ, refl, subst}
 use Rattle.std.specs.Option.{option_or}
 use Rattle.lf_model.specs.Traps.{privileged_instruction, mem_address_not_aligned, data_access_exception, when, no_checks, traps_in_order, first_trap}
 use Rattle.lf_model.specs.declared.trap.Checks.{Checks}

@@ -1,11 +1,11 @@
 -- A load that hits retires, and its operation is counted.
-use Rattle.std.proofs.Common.{◌≡◌, ℕ, ◌+◌, ◌/◌, ◌%◌, ◌^◌, ◌<◌, ◌≤◌, ◌∷◌, ◌++◌, [], List, length, Option, Some, None, refl, sym, ap, subst, arith, ◌∙◌, add-zero, add-one}
+use Rattle.std.proofs.Common.{◌≡◌, ℕ, ◌+◌, ◌/◌, ◌%◌, ◌^◌, ◌≤◌, ◌++◌, List, length, Some, None, refl, sym, ap, subst, arith, ◌∙◌}
 use Rattle.std.proofs.lemmas.List.{length-append}
 use Rattle.lf_model.specs.State.{State, advanced, with_register}
 use Rattle.lf_model.specs.Effect.{Access, operates, cell_written}
 use Rattle.lf_model.specs.Memory.{size_of, extended, with_words, load_effect, load_double_effect}
-use Rattle.lf_model.specs.Run.{Run, with_access, operation}
-use Rattle.lf_model.specs.Step.{IsSound, Seen, Parts, state_of, run_seen, recorded, first_bad, access_row, answer_of, came_to, Does}
+use Rattle.lf_model.specs.Run.{Run, with_access}
+use Rattle.lf_model.specs.Step.{IsSound, Seen, Parts, state_of, run_seen, recorded, first_bad, access_row, answer_of, Does}
 use Rattle.lf_model.specs.declared.bus.Entry.{Entry}
 use Rattle.lf_model.specs.declared.control.Arch.{Arch}
 use Rattle.lf_model.specs.declared.step.Did.TheVariants.{Retired}

@@ -1,5 +1,5 @@
 -- Sizes of accesses.
-use Rattle.std.proofs.Common.{◌≡◌, ℕ, ◌*◌, ◌^◌, ◌<◌, ◌≤◌, arith, rules, Fits, w32}
+use Rattle.std.proofs.Common.{ℕ, ◌*◌, ◌^◌, ◌<◌, ◌≤◌, arith, rules, Fits, w32}
 use Rattle.lf_model.specs.Memory.{size_of}
 use Rattle.lf_model.specs.declared.instruction.MemName.{MemName}
 use Rattle.lf_model.specs.declared.instruction.MemName.TheVariants.{Ld, Ldub, Lduh, Ldd, St, Stb, Sth, Std, Ldsb, Ldsh, Ldstub, Swap}

@@ -1,14 +1,13 @@
 -- What an instruction comes to where a register reads bad, where it traps, and where it does not.
-use Rattle.std.proofs.Common.{◌≡◌, ℕ, ◌+◌, ◌%◌, ◌^◌, arith, ◌∷◌, [], List, Bool, cond, true, false, Option, Some, None, refl, sym, ap, subst, ◌∙◌, ◌==◌, slice_set}
+use Rattle.std.proofs.Common.{◌≡◌, ℕ, ◌+◌, ◌%◌, ◌^◌, arith, List, Bool, cond, true, false, Option, Some, None, refl, sym, ap, ◌∙◌, ◌==◌, slice_set}
 use Rattle.lf_model.specs.Start.{output_word}
 use Rattle.lf_model.specs.State.{State, cell, register, operand}
-use Rattle.lf_model.specs.Instructions.{registers_read}
-use Rattle.lf_model.specs.Effect.{Site, Effect, sum_of_operands}
+use Rattle.lf_model.specs.Effect.{Effect, sum_of_operands}
 use Rattle.lf_model.specs.Traps.{unless_trap, trap_effect, entered, handler_window}
 use Rattle.lf_model.specs.Memory.{output_effect, store_effect, mem_effect}
 use Rattle.lf_model.specs.Alternate.{is_plain_space, control_effect, alternate_effect}
 use Rattle.lf_model.specs.Run.{Run}
-use Rattle.lf_model.specs.Step.{Seen, Parts, state_of, run_seen, first_bad, drains_first, came_to, run_after, Does}
+use Rattle.lf_model.specs.Step.{Seen, Parts, state_of, run_seen, first_bad, drains_first, Does}
 use Rattle.lf_model.specs.declared.bus.Why.TheVariants.{End}
 use Rattle.lf_model.specs.declared.control.Arch.{Arch}
 use Rattle.lf_model.specs.declared.control.Ctl.{Ctl}

@@ -1,5 +1,5 @@
 -- An instruction without an operation asks for no load and no atomic of the bus.
-use Rattle.std.proofs.Common.{◌≡◌, ℕ, ◌∷◌, [], List, Bool, cond, true, false, Option, Some, None, unwrap_or, refl, sym, ap, subst, ◌∙◌, inl, inr, ◌⊎◌}
+use Rattle.std.proofs.Common.{◌≡◌, ℕ, ◌∷◌, [], Bool, cond, true, false, Option, Some, None, unwrap_or, refl, sym, subst, inl, inr, ◌⊎◌}
 use Rattle.lf_model.specs.State.{State}
 use Rattle.lf_model.specs.Instructions.{registers_read}
 use Rattle.lf_model.specs.Effect.{Site, Access, Effect}

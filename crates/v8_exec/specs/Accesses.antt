@@ -1,5 +1,5 @@
 -- What loads, stores and atomics need of the fields of their instruction, read from its registers, and ask of the bus.
-use Rattle.std.specs.Prelude.{ℕ, ◌≡◌, ◌+◌, ◌*◌, ◌^◌, ◌<◌, ⊤, ◌++◌, List, Some, None, Result, Ok, Err, false, true, Bool, ◌==◌, ◌||◌}
+use Rattle.std.specs.Prelude.{ℕ, ◌≡◌, ◌*◌, ◌^◌, ◌<◌, ⊤, ◌++◌, List, Some, None, Result, Ok, Err, false, true, Bool, ◌==◌, ◌||◌}
 use Rattle.lf_model.specs.Start.{touches_text}
 use Rattle.lf_model.specs.State.{State}
 use Rattle.lf_model.specs.Instructions.{operand_registers, stored_registers}
@@ -10,7 +10,6 @@ use Rattle.lf_model.specs.Run.{performed}
 use Rattle.lf_model.specs.Step.{Seen, Parts, state_of, run_seen, first_bad, access_row, looked, recorded, came_to}
 use Rattle.lf_model.specs.declared.bus.OpKind.TheVariants as kinds
 use Rattle.lf_model.specs.declared.instruction.MemName.{MemName}
-use Rattle.lf_model.specs.declared.instruction.MemName.TheVariants.{Ldd, Std}
 use Rattle.lf_model.specs.declared.control.Arch.{Arch}
 use Rattle.lf_model.specs.declared.instruction.Instr.{Instr}
 use Rattle.lf_model.specs.declared.instruction.Instr.TheVariants.{Mem, Alternate}

@@ -1,4 +1,4 @@
-use Rattle.std.proofs.Common.{ℕ, ◌≡◌, ◌∙◌, Option, None, Bool, not, refl, ap, sym}
+use Rattle.std.proofs.Common.{◌≡◌, ◌∙◌, None, not, refl, ap, sym}
 use Rattle.std.specs.Option.{option_or}
 use Rattle.lf_model.specs.Traps.{when, privileged_instruction, mem_address_not_aligned, data_access_exception}
 use Rattle.lf_model.specs.Alternate.{alternate_effect}

@@ -1,6 +1,5 @@
-use Rattle.std.proofs.Common.{◌≡◌, ℕ, ◌%◌, ◌+◌, false, refl, sym, ap, ◌∙◌, slice_set}
-use Rattle.lf_model.specs.State.{cell}
-use Rattle.lf_model.specs.Step.{Seen, state_of}
+use Rattle.std.proofs.Common.{◌≡◌, refl}
+use Rattle.lf_model.specs.Step.{state_of}
 use Rattle.lf_model.specs.Traps.{handler_window}
 use Rattle.v8_exec.proofs.TrapLemmas.{trap_entered, not_false}
 use Rattle.v8_exec.proofs.trap.take.Goals as goal
