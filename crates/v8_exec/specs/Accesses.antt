@@ -71,7 +71,9 @@ is_atomic_size len = len == 1 || len == 4
 -- and a register
 abbrev pub Asks : Site → Did → Type 0
 Asks site (Need (Load addr len why)) = IsAccess site addr len
-Asks site (Need (Atomic addr len new rd)) = IsAccess site addr len × (is_atomic_size len ≡ true) × (touches_text site.image.text addr len ≡ false) × (new < 2 ^ (8 * len)) × (rd < 32)
+Asks site (Need (Atomic addr len new rd)) =
+    IsAccess site addr len × (is_atomic_size len ≡ true) × (touches_text site.image.text addr len ≡ false)
+    × (new < 2 ^ (8 * len)) × (rd < 32)
 Asks site _ = ⊤
 
 -- a load, store or atomic

@@ -1,6 +1,6 @@
-ghost use Rattle.std.specs.Prelude.{◌≡◌, ◌<◌, ◌≤◌, ◌+◌, ◌*◌, ◌/◌, ◌%◌, ◌^◌, IfOk, IfErr, IsTrue, false, true};
-ghost use Rattle.lf_model.specs.Start.{is_in_ram, touches_text};
-ghost use Rattle.lf_model.specs.Memory.{size_of, load_refused, store_refused, atomic_refused, access_misaligned, access_refused, extended, with_words, load_effect, load_double_effect, store_effect, output_effect, atomic_effect, stored_number, mem_effect};
+ghost use Rattle.std.specs.Prelude.{◌≡◌, ◌<◌, ◌≤◌, ◌+◌, ◌*◌, ◌^◌, IfOk, IfErr, false, true};
+ghost use Rattle.lf_model.specs.Start.{touches_text};
+ghost use Rattle.lf_model.specs.Memory.{size_of, load_refused, store_refused, access_misaligned, access_refused, extended, load_effect, load_double_effect, store_effect, output_effect, atomic_effect, stored_number, mem_effect};
 ghost use Rattle.lf_model.specs.State.{register};
 ghost use Rattle.lf_model.specs.Alternate.{is_plain_space, alternate_refused, control_effect};
 ghost use Rattle.lf_model.specs.Step.{IsSound, state_of};

@@ -1,6 +1,6 @@
-ghost use Rattle.std.specs.Prelude.{◌≡◌, ◌<◌, ◌&&◌, not, IfOk, IfErr, OnOk, None, Some};
+ghost use Rattle.std.specs.Prelude.{◌≡◌, ◌<◌, IfOk, IfErr, OnOk, None, Some};
 ghost use Rattle.lf_model.specs.Effect.{sets};
-ghost use Rattle.lf_model.specs.Traps.{no_checks, traps_in_order};
+ghost use Rattle.lf_model.specs.Traps.{traps_in_order};
 ghost use Rattle.lf_model.specs.Traps.{first_trap as first_of};
 ghost use Rattle.lf_model.specs.Windows.{in_window, window_after_restore};
 ghost use Rattle.lf_model.specs.Step.{IsSound, state_of};
