@@ -1,0 +1,58 @@
+//! The parity code of cache tags and cache lines: eight data bits and their parity.
+//!
+//! One turned bit of nine is always detected, and never put right. No call takes memory.
+#![tactic(auto)]
+
+ghost use Rattle.std.specs.Prelude.{◌≡◌, ◌≢◌, ◌/◌, ◌%◌, ◌^◌, ◌<◌, ◌↔◌, IsNone, IfSome};
+ghost use Rattle.parity_code.specs.Parity.{parity, code, ReadsStruck};
+
+use lf_num::odd8;
+
+/// The nine bits that hold `b`: the byte in bits 0 to 7, and in bit 8 a 1 where it has an odd number of ones.
+pub fn put9(b: u8) -> u16
+    ensures code { result ≡ code b }
+    ensures fits { result < 2 ^ 9 }
+{
+    u16::from(b) + (u16::from(odd8(b)) << 8)
+}
+
+/// The byte of nine bits; `None` exactly where bit 8 is not the parity of the others.
+pub fn get9(c: u16) -> Option<u8>
+    requires { c < 2 ^ 9 }
+    ensures none { IsNone result ↔ (c / 2 ^ 8 ≢ parity (c % 2 ^ 8)) }
+    ensures byte { IfSome result (λ b. b ≡ c % 2 ^ 8) }
+    ensures struck { ReadsStruck c result }
+{
+    let byte = (c % 256) as u8;
+    let is_odd = c >= 256;
+    if odd8(byte) == is_odd {
+        Some(byte)
+    } else {
+        None
+    }
+}
+
+#[cfg(test)]
+mod tests {
+    use super::*;
+
+    #[test]
+    fn bytes_and_turned_bits(rt: HostRuntime) {
+        // A byte, its nine bits, and those with a bit turned.
+        let bytes = [
+            (0x00, 0x000, 0x001),
+            (0x01, 0x101, 0x001),
+            (0x03, 0x003, 0x103),
+            (0x5a, 0x05a, 0x04a),
+            (0x80, 0x180, 0x100),
+            (0xfe, 0x1fe, 0x1ff),
+            (0xff, 0x0ff, 0x07f),
+        ];
+        for (byte, bits, turned) in bytes {
+            assert_eq!(rt; put9(byte), bits, "bits of {byte}");
+            assert!(rt; bits < 512 && turned < 512);
+            assert_eq!(rt; get9(bits), Some(byte), "byte of {bits}");
+            assert_eq!(rt; get9(turned), None, "byte of {turned}");
+        }
+    }
+}
