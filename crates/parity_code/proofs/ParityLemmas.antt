@@ -50,7 +50,7 @@ ones_struck : (byte bit : ℕ) → byte < 2 ^ 8 → bit < 9 → ones_below 9 (bi
 ones_struck byte bit fits lt = omega (arith, ones_turned 9 (code byte) bit lt, ones_code byte fits)
 
 -- the byte of nine bits as it was put
-byte_of-code : (byte : ℕ) → byte < 2 ^ 8 → code byte % 2 ^ 8 ≡ byte
+pub byte_of-code : (byte : ℕ) → byte < 2 ^ 8 → code byte % 2 ^ 8 ≡ byte
 unfolding code
 byte_of-code byte fits = mod_low (parity byte) 8 byte fits
 
@@ -70,3 +70,8 @@ reads_odd bits byte [] fits odd byte_fits set few is =
     absurd (odd (omega (arith, even, ones_parted bits fits)))
 reads_odd bits byte (bit ∷ []) fits odd byte_fits set few is = refl
 reads_odd bits byte (a ∷ b ∷ rest) fits odd byte_fits set few is = absurd (omega arith)
+
+-- the nine bits fit
+pub code-lt : (byte : ℕ) → byte < 2 ^ 8 → code byte < 2 ^ 9
+unfolding code
+code-lt byte fits = omega arith

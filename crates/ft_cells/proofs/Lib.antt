@@ -1,0 +1,2 @@
+pub mod ToggleLemmas
+pub mod StoredLemmas

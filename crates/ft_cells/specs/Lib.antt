@@ -1,0 +1,5 @@
+pub mod Toggling
+pub mod Cells
+pub mod Codes
+pub mod Laws
+pub mod Stored
