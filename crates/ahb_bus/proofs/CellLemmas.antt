@@ -9,12 +9,12 @@ use Rattle.std.proofs.lemmas.List.Sums.{sum_by-cons}
 use Rattle.lf_model.specs.Flips.{How, Moment, Standing, struck, standing, places_below, is_turned, turned, word_budget, word_bits}
 use Rattle.lf_model.specs.Flips.Moment.{Struck, Written}
 use Rattle.lf_model.specs.Start.{ram_first, is_in_ram}
-use Rattle.ft_memory.specs.Toggling.{has_place, with_toggled}
+use Rattle.ft_cells.specs.Toggling.{has_place, with_toggled}
 use Rattle.ft_memory.specs.Cells.{CellState, fresh, FlipsCell}
 use Rattle.ft_memory.specs.Memory.{ram_of, place_of, cell_at}
-use Rattle.ft_memory.specs.declared.answer.Flipped.{Flipped}
-use Rattle.ft_memory.specs.declared.answer.Flipped.TheVariants.{Applied, Declined}
-use Rattle.ft_memory.proofs.ToggleLemmas.{filter-same}
+use Rattle.ft_cells.specs.declared.flipped.Flipped.{Flipped}
+use Rattle.ft_cells.specs.declared.flipped.Flipped.TheVariants.{Applied, Declined}
+use Rattle.ft_cells.proofs.ToggleLemmas.{filter-same}
 use Rattle.ahb_bus.specs.Cells.{values, IsCellOf, AreCellsOf}
 use Rattle.ahb_bus.specs.Plan.{IsAimed}
 use Rattle.ahb_bus.specs.Striking.{struck_by}

@@ -1,5 +1,4 @@
-pub mod ToggleLemmas
-pub mod StoredLemmas
 pub mod LineLemmas
 pub mod LoadLemmas
 pub mod PartLemmas
+pub mod FixLemmas

@@ -1,19 +1,14 @@
--- The cell of a memory word, as its readers and writers know it, and what upsets do to it.
-use Rattle.std.specs.Prelude.{◌≡◌, ℕ, ◌+◌, ◌<◌, Bool, ◌==◌, if◌then◌else◌, List, [], length, Result, Ok, Err}
+-- The cell of a memory word, as its readers and writers know it, and what upsets do to it: a protected cell of the (39,32)
+-- code, whose value is the word, and whose toggled bits 0 to 31 are data, 32 to 38 check bits.
+use Rattle.std.specs.Prelude.{◌≡◌, ℕ, ◌<◌, Bool, ◌==◌, if◌then◌else◌, length, map, List, Result, Ok, Err}
 use Rattle.lf_num.specs.Columns.{columns_sum}
-use Rattle.ft_memory.specs.Toggling.{with_toggled}
+use Rattle.ft_cells.specs.Cells as cells
+use Rattle.ft_cells.specs.declared.flipped.Flipped.{Flipped}
 use Rattle.ft_memory.specs.declared.answer.Got.{Got}
-use Rattle.ft_memory.specs.declared.answer.Flipped.{Flipped}
-use Rattle.ft_memory.specs.declared.answer.Flipped.TheVariants.{Applied, Declined}
 
--- what a cell holds, and what struck it since its word was written
-pub record CellState : Type 0 where
-  -- the word last written
-  pub value : ℕ
-  -- the set of bits flipped an odd number of times since, the highest first: 0 to 31 are data, 32 to 38 check bits
-  pub toggled : List ℕ
-  -- the number of flips applied since
-  pub hits : ℕ
+-- the word last written, the set of bits toggled since, and the number of flips applied since
+abbrev pub CellState : Type 0
+CellState = cells.CellState ℕ
 
 -- the bits of a cell
 abbrev pub cell_bits : ℕ
@@ -25,21 +20,20 @@ budget = 2
 
 -- a cell whose word was just written
 abbrev pub fresh : ℕ → CellState
-fresh value = record { value = value; toggled = []; hits = 0 }
-
--- a cell after one more applied flip of a bit
-abbrev pub flipped : CellState → ℕ → CellState
-flipped cell bit = record cell { toggled = with_toggled cell_bits cell.toggled bit; hits = cell.hits + 1 }
+fresh word = cells.fresh word
 
 -- what a flip of a bit does to a cell, by its answer: below the budget it is applied; at the budget it is declined with the
 -- number of flips, and changes nothing
 abbrev pub FlipsCell : CellState → ℕ → Flipped → CellState → Type 0
-FlipsCell old bit Applied new = (old.hits < budget) × (new ≡ flipped old bit)
-FlipsCell old bit (Declined hits) new = (old.hits ≡ budget) × (hits ≡ old.hits) × (new ≡ old)
+FlipsCell old bit answer new = cells.FlipsCell cell_bits budget old bit answer new
 
 -- a word is lost where two of its cell's bits are toggled
 abbrev pub is_bad : CellState → Bool
 is_bad cell = length cell.toggled == 2
+
+-- and put right where one is
+abbrev pub is_fixed : CellState → Bool
+is_fixed cell = length cell.toggled == 1
 
 -- the syndrome with which a cell reads: the sum modulo 2 of the columns of its toggled bits
 abbrev pub syndrome_of : CellState → ℕ
@@ -53,3 +47,7 @@ ReadsAs cell (Err syndrome) = (length cell.toggled ≡ 2) × (syndrome ≡ syndr
 -- the word that a line shows for a cell: the word last written, 0 for a bad one
 abbrev pub shown_word : CellState → ℕ
 shown_word cell = if is_bad cell then 0 else cell.value
+
+-- the words last written to cells
+abbrev pub words : List CellState → List ℕ
+words cells = map (λ cell. cell.value) cells

@@ -1,5 +1,4 @@
-pub mod Toggling
 pub mod Cells
-pub mod Stored
 pub mod Memory
 pub mod Parts
+pub mod Fixing

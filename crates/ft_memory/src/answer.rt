@@ -7,11 +7,13 @@ pub struct Got {
     pub syn: u8,
 }
 
-/// Whether a flip turned its bit.
+/// What a fix of a word met.
 #[derive(Clone, Copy, Debug, PartialEq, Eq)]
-pub enum Flipped {
-    /// The bit is turned.
-    Applied,
-    /// Nothing is turned, since the cell took all the flips that it may take between two writes: their number.
-    Declined(u8),
+pub enum Fixed {
+    /// No bit was turned: nothing is written.
+    Clean,
+    /// One bit was turned, with this syndrome: the word is written anew.
+    Corrected { bit: u8, syn: u8 },
+    /// The word is bad, with this syndrome: nothing is written.
+    Bad { syn: u8 },
 }

@@ -1,13 +1,15 @@
 ghost use Rattle.std.specs.Prelude.{◌≡◌, ◌+◌, ◌%◌, ◌^◌, ◌<◌, ◌≤◌, ◌↔◌, ℕ, length, map, slice_set, IsTrue, IsOk, IsErr, IfOk, IfErr};
 ghost use Rattle.lf_model.specs.Start.{ram_first, is_in_ram};
-ghost use Rattle.ft_memory.specs.Cells.{cell_bits, fresh, is_bad, shown_word, syndrome_of, FlipsCell};
+ghost use Rattle.ft_memory.specs.Cells.{cell_bits, fresh, is_bad, shown_word, syndrome_of, words, FlipsCell};
+ghost use Rattle.ft_memory.specs.Fixing.{FixesCell};
 ghost use Rattle.ft_memory.specs.Memory.{ram_of, place_of, cell_at, line_at, IsInRam, HoldsImage};
 ghost use Rattle.ft_memory.specs.Parts.{word_address, is_part, merged, HasMergedBytes};
 
-use crate::answer::{Flipped, Got};
-use crate::cell::Cell;
+use crate::answer::{Fixed, Got};
+use crate::cell::{WordCell, fix, read, show};
 use crate::part::{merged, word_address};
 use crate::start::{initial_bytes, word_at};
+use ft_cells::Flipped;
 use lf_model::addresses::RAM_FIRST;
 use lf_model::bus::{Bad, Line};
 use lf_model::image::Image;
@@ -20,7 +22,7 @@ use std::marker::Model;
 /// bad, which a write alone mends. A read changes nothing: a turned bit is put right in its answer alone.
 #[derive(Drop)]
 pub struct Memory {
-    cells: Vec<Cell>,
+    cells: Vec<WordCell>,
 }
 
 impl Model for Memory {
@@ -58,7 +60,7 @@ impl Memory {
         let count = bytes.len() / 4;
         let mut cells = Vec::with_capacity(alloc, count)?;
         for place in 0..count {
-            cells.push(Cell::new(word_at(&bytes, 4 * place)))?;
+            cells.push(WordCell::new(word_at(&bytes, 4 * place)))?;
         }
         Ok(Memory { cells })
     }
@@ -77,7 +79,7 @@ impl Memory {
         let mut syn = [0; 8];
         let mut bad = [false; 8];
         for i in 0..8usize {
-            let shown = self.cells[first + i].show();
+            let shown = show(&self.cells[first + i]);
             words[i] = shown.word;
             syn[i] = shown.syn;
             bad[i] = shown.bad;
@@ -102,9 +104,7 @@ impl Memory {
         ensures syndrome { IfOk result (λ got. got.syn ≡ syndrome_of (cell_at self.now addr)) }
         ensures bad_word { IfErr result (λ bad. bad ≡ record { addr = addr; syn = syndrome_of (cell_at self.now addr) }) }
     {
-        self.cells[place_of(addr)]
-            .read()
-            .map_err(|syn| Bad { addr, syn })
+        read(&self.cells[place_of(addr)]).map_err(|syn| Bad { addr, syn })
     }
 
     /// Writes the word at an address of RAM, a multiple of 4.
@@ -113,7 +113,7 @@ impl Memory {
         requires aligned { addr % 4 ≡ 0 }
         ensures written { self.new ≡ slice_set self.old (place_of addr) (fresh v) }
     {
-        self.cells[place_of(addr)] = Cell::new(v);
+        self.cells[place_of(addr)].write(v);
     }
 
     /// Writes a byte or half (`len` 1 or 2) at an address of RAM, a multiple of `len`: the low bytes of `v`. The word that it
@@ -138,9 +138,9 @@ impl Memory {
         ensures unchanged { IsErr result → self.new ≡ self.old }
     {
         let place = place_of(addr);
-        match self.cells[place].read() {
+        match read(&self.cells[place]) {
             Ok(got) => {
-                self.cells[place] = Cell::new(merged(got.value, addr, len, v));
+                self.cells[place].write(merged(got.value, addr, len, v));
                 Ok(got.syn)
             }
             Err(syn) => Err(Bad {
@@ -161,5 +161,17 @@ impl Memory {
         ensures declined { (hits : ℕ) → result ≡ Flipped.Declined hits → self.new ≡ self.old }
     {
         self.cells[place_of(addr)].flip(bit)
+    }
+
+    /// Writes the word at an address of RAM, a multiple of 4, anew where one bit of its cell is turned. No word's value
+    /// changes.
+    pub fn fix(&mut self, addr: u32) -> Fixed
+        requires in_ram { IsTrue (is_in_ram (ram_of self.old) addr 4) }
+        requires aligned { addr % 4 ≡ 0 }
+        ensures cell { FixesCell (cell_at self.old addr) result (cell_at self.new addr) }
+        ensures others { self.new ≡ slice_set self.old (place_of addr) (cell_at self.new addr) }
+        ensures words { words self.new ≡ words self.old }
+    {
+        fix(&mut self.cells[place_of(addr)])
     }
 }

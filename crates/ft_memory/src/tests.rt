@@ -3,8 +3,9 @@ ghost use Rattle.lf_model.specs.Start.{is_in_ram};
 ghost use Rattle.ft_memory.specs.Memory.{ram_of, IsInRam};
 ghost use Rattle.ft_memory.specs.Parts.{is_part};
 
-use crate::answer::{Flipped, Got};
+use crate::answer::{Fixed, Got};
 use crate::ram::Memory;
+use ft_cells::Flipped;
 use lf_model::addresses::is_in_ram;
 use lf_model::image::{Image, Segment};
 use lf_model::listed::Listed;
@@ -27,6 +28,7 @@ enum Step {
     /// The word of the address is bad, with this syndrome.
     PartOfBad(u32, u8, u32, u8),
     Flip(u32, u8, Flipped),
+    Fix(u32, Fixed),
 }
 
 /// The words of RAM at the start that are not 0, and some that are.
@@ -87,6 +89,22 @@ const PARTS: [Step; 15] = [
     Step::ReadsBad(0x4000_0024, 0x05),
     Step::Reads(0x4000_0028, 0, 0),
     Step::Flip(0x4000_0024, 0, Flipped::Declined(2)),
+];
+
+/// Fixes of a word with one turned bit, of one with two, and of one in which a bit was turned twice: it stays struck.
+const FIXES: [Step; 12] = [
+    Step::Flip(0x4000_0030, 38, Flipped::Applied),
+    Step::Fix(0x4000_0030, Fixed::Corrected { bit: 38, syn: 0x40 }),
+    Step::Reads(0x4000_0030, 0, 0),
+    Step::Fix(0x4000_0030, Fixed::Clean),
+    Step::Fix(0x4000_0024, Fixed::Bad { syn: 0x05 }),
+    Step::ReadsBad(0x4000_0024, 0x05),
+    Step::Flip(0x4000_0034, 5, Flipped::Applied),
+    Step::Flip(0x4000_0034, 5, Flipped::Applied),
+    Step::Fix(0x4000_0034, Fixed::Clean),
+    Step::Flip(0x4000_0034, 5, Flipped::Declined(2)),
+    Step::Flip(0x4000_0030, 38, Flipped::Applied),
+    Step::Reads(0x4000_0030, 0, 0x40),
 ];
 
 fn segment(alloc: Global, addr: u32, bytes: &[u8], size: u32) -> Result<Segment, AllocError>
@@ -176,6 +194,10 @@ fn make(rt: &impl Abort, memory: &mut Memory, step: Step)
             assert!(rt; bit < 39);
             assert_eq!(rt; memory.flip(addr, bit), answer, "bit {bit} at {addr}");
         }
+        Step::Fix(addr, answer) => {
+            expect_word(rt, addr);
+            assert_eq!(rt; memory.fix(addr), answer, "word at {addr}");
+        }
     }
 }
 
@@ -204,5 +226,6 @@ fn words_flips_and_writes(rt: HostRuntime) -> Result<(), Fail> {
 
     make_all(&rt, &mut memory, &WRITES);
     make_all(&rt, &mut memory, &PARTS);
+    make_all(&rt, &mut memory, &FIXES);
     Ok(())
 }
