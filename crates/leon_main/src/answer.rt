@@ -1,5 +1,5 @@
 ghost use Rattle.std.specs.Prelude.{◌≡◌, IfOk};
-ghost use Rattle.leon_main.specs.Ends.{is_stop, is_unbuilt, is_limit, some_end, status_of_cores};
+ghost use Rattle.leon_main.specs.Ends.{is_stop, is_limit, some_end, status_of_cores};
 ghost use Rattle.leon_main.specs.Call.{status_of, text_of};
 
 use crate::fault::Fault;
@@ -25,15 +25,6 @@ fn has_stop(cores: &[CoreResult]) -> bool
         .any(|core| matches!(core.end, CoreEnd::Stop { .. }))
 }
 
-/// A core met an instruction that is not built.
-fn has_unbuilt(cores: &[CoreResult]) -> bool
-    ensures { result ≡ some_end is_unbuilt cores.now }
-{
-    cores
-        .iter()
-        .any(|core| matches!(core.end, CoreEnd::Unbuilt))
-}
-
 /// A core reached its limit of steps.
 fn has_limit(cores: &[CoreResult]) -> bool
     ensures { result ≡ some_end is_limit cores.now }
@@ -47,8 +38,6 @@ fn status_of_cores(cores: &[CoreResult]) -> u8
 {
     if has_stop(cores) {
         10
-    } else if has_unbuilt(cores) {
-        13
     } else if has_limit(cores) {
         11
     } else {

@@ -12,7 +12,11 @@ pub struct Row {
     pub out: &'static str,
     pub globals: &'static str,
     pub outs: &'static str,
+    pub locals: &'static str,
+    pub ins: &'static str,
     pub psr: &'static str,
+    pub wim: &'static str,
+    pub tbr: &'static str,
     pub y: &'static str,
     pub pcs: &'static str,
 }
@@ -27,7 +31,11 @@ pub const ZERO: Row = Row {
     out: "-",
     globals: ZEROS,
     outs: ZEROS,
+    locals: ZEROS,
+    ins: ZEROS,
     psr: "F3000080",
+    wim: "00000002",
+    tbr: "00000000",
     y: "00000000",
     pcs: "40000000 40000004",
 };
@@ -83,7 +91,7 @@ const LOAD: Row = Row {
     ..ZERO
 };
 
-static RUNS: [Run; 7] = [
+static RUNS: [Run; 6] = [
     WRITES,
     // A word is stored to 40001000 and loaded from there.
     Run {
@@ -137,16 +145,6 @@ static RUNS: [Run; 7] = [
         flips: "3\nf 0 dormant\nf 1 dormant\nf 2 declined",
         ..QUIET
     },
-    // SAVE is not built.
-    Run {
-        row: Row {
-            words: &[0x81e0_2000],
-            end: "unbuilt 0 1",
-            ..ZERO
-        },
-        status: 13,
-        ..QUIET
-    },
     // A loop that does not end.
     Run {
         row: Row {
@@ -167,12 +165,12 @@ fn report(alloc: Global, run: &Run) -> Result<String, AllocError> {
         row.end, row.out
     )?;
     let registers = format!(in alloc;
-        "g 0 {}\no 0 {}\nl 0 {ZEROS}\ni 0 {ZEROS}\n",
-        row.globals, row.outs
+        "g 0 {}\no 0 {}\nl 0 {}\ni 0 {}\n",
+        row.globals, row.outs, row.locals, row.ins
     )?;
     let control = format!(in alloc;
-        "ctl 0 {} 00000002 00000000 {} {}\n",
-        row.psr, row.y, row.pcs
+        "ctl 0 {} {} {} {} {}\n",
+        row.psr, row.wim, row.tbr, row.y, row.pcs
     )?;
     let transfers = format!(in alloc;
         "parity 0 0 0 0 0\nahb 00000000 00000000\ntransfers {}\n",
