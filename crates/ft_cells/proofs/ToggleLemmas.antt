@@ -77,16 +77,8 @@ with_toggled-places width n place =
     ])
     ∙ sym (places-filter width (bit_xor n (2 ^ place)))
 
--- a place that is toggled twice is as it was
+-- 0 has no ones
 pub places-zero : (width : ℕ) → places width 0 ≡ []
 unfolding places
 places-zero zero = refl
 places-zero (suc width) = rw (bit_at-zero width) (places-zero width)
-
-pub with_toggled-twice : (width place : ℕ) → with_toggled width (with_toggled width [] place) place ≡ []
-with_toggled-twice width place =
-    ap (λ (set : List ℕ). with_toggled width (with_toggled width set place) place) (sym (places-zero width))
-    ∙ ap (λ (set : List ℕ). with_toggled width set place) (with_toggled-places width 0 place)
-    ∙ with_toggled-places width (bit_xor 0 (2 ^ place)) place
-    ∙ ap (places width) (turned_back 0 place)
-    ∙ places-zero width

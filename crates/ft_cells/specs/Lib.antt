@@ -3,3 +3,4 @@ pub mod Cells
 pub mod Codes
 pub mod Laws
 pub mod Stored
+pub mod WordCells
