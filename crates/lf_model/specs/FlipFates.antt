@@ -4,7 +4,7 @@ use Rattle.std.specs.List.{filter_map, range_with_len}
 use Rattle.lf_model.specs.Flips.{word_budget}
 use Rattle.lf_model.specs.Fates.{happened, is_applied, fate_of}
 use Rattle.lf_model.specs.WordHistory.{Naming, history}
-use Rattle.lf_model.specs.StopCause.{transfers_of, access_after, lowest_bad}
+use Rattle.lf_model.specs.StopCause.{transfers_of, access_after, lowest_bad, word_of}
 use Rattle.lf_model.specs.declared.flip.Flip.{Flip}
 use Rattle.lf_model.specs.declared.flip.Flip.TheVariants.{Mem}
 use Rattle.lf_model.specs.declared.setup.Setup.{Setup}
@@ -16,11 +16,16 @@ use Rattle.lf_model.specs.declared.trace.Fate.TheVariants.{Late, Declined}
 use Rattle.lf_model.specs.declared.trace.Trace.{Trace}
 use Rattle.lf_model.specs.declared.bus.Transfer.{Transfer}
 
--- the memory word that an end names, with its transfer: of `data_access_error`, 09, the lowest bad word wanted
+-- the lowest bad word that a core's instruction after n instructions wants
+abbrev pub word_wanted : Setup → Trace → ℕ → ℕ → ℕ → Option ℕ
+word_wanted setup trace c n turn = option_and_then (λ a. lowest_bad setup trace turn a) (access_after setup trace c n)
+
+-- the memory word that an end names, with its transfer: of `data_access_error`, 09, the lowest bad word wanted; of
+-- `data_store_error`, 2B, the word of the part store
 abbrev pub naming_of : Setup → Trace → ℕ → CoreResult → CoreEnd → Option Naming
-naming_of setup trace c r (Stop tt_ place syn) = if tt_ == 0x09
-    then option_and_then (λ a. option_map (λ word. record { turn = place; word = word }) (lowest_bad setup trace place a)) (access_after setup trace c r.n)
-    else None
+naming_of setup trace c r (Stop tt_ place syn) = option_map (λ word. record { turn = place; word = word })
+    (if tt_ == 0x09 then word_wanted setup trace c r.n place
+    else if tt_ == 0x2B then option_map word_of (slice_get trace.transfers place) else None)
 naming_of setup trace c r _ = None
 
 abbrev pub naming_at : Setup → Trace → ℕ → Option Naming

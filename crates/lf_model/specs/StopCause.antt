@@ -1,6 +1,6 @@
 -- Why an error trap stops a core: as its last transfer met it, a word that the instruction wants had two of its bits
 -- turned. Which error trap an error gives is this machine's own.
-use Rattle.std.specs.Prelude.{ℕ, ◌≡◌, ◌≢◌, ◌+◌, ◌-◌, ◌*◌, ◌/◌, ◌%◌, ◌&&◌, not, ⊤, true, false, Bool, List, [], ◌∷◌, map, filter, take, drop, find, Option, Some, None, IfSome, slice_get, option_and_then, if◌then◌else◌}
+use Rattle.std.specs.Prelude.{ℕ, ◌≡◌, ◌≢◌, ◌+◌, ◌-◌, ◌*◌, ◌/◌, ◌%◌, ◌&&◌, not, ⊤, ◌⊎◌, true, false, Bool, List, [], ◌∷◌, map, filter, take, drop, find, Option, Some, None, IfSome, slice_get, option_and_then, if◌then◌else◌}
 use Rattle.std.specs.List.{AllByRecursion, list_any, range_with_len}
 use Rattle.std.specs.Option.{IsSomeAnd}
 use Rattle.lf_model.specs.Operation.{enters}
@@ -15,7 +15,7 @@ use Rattle.lf_model.specs.declared.bus.OpKind.{OpKind}
 use Rattle.lf_model.specs.declared.bus.OpKind.TheVariants as kinds
 use Rattle.lf_model.specs.declared.bus.Transfer.{Transfer}
 use Rattle.lf_model.specs.declared.bus.TurnKind.{TurnKind}
-use Rattle.lf_model.specs.declared.bus.TurnKind.TheVariants.{Load, Atomic}
+use Rattle.lf_model.specs.declared.bus.TurnKind.TheVariants.{Load, Store, Atomic}
 use Rattle.lf_model.specs.declared.setup.Setup.{Setup}
 use Rattle.lf_model.specs.declared.trace.CoreEnd.{CoreEnd}
 use Rattle.lf_model.specs.declared.trace.CoreEnd.TheVariants.{Stop}
@@ -69,13 +69,32 @@ pub record IsDataError (setup : Setup) (trace : Trace) (c n step turn syn : ℕ)
   pub word : IsSomeAnd (access_after setup trace c n) (λ a.
       IsSomeAnd (lowest_bad setup trace turn a) (λ word. syn ≡ syndrome (history_met setup trace turn word)))
 
+-- the word in which the bytes of a part store lie
+abbrev pub word_of : Transfer → ℕ
+word_of t = t.addr - t.addr % 4
+
+-- `data_store_error`, 2B: the transfer of this turn, made in this step, is a store of a byte or half, which reads one word,
+-- and its word is bad there, with this syndrome
+pub record IsStoreError (setup : Setup) (trace : Trace) (c step turn syn : ℕ) (t : Transfer) : Type 0 where
+  pub master : t.master ≡ c
+  pub made_in : t.step ≡ step
+  pub kind : t.kind ≡ Store
+  pub reads : t.words ≡ 1
+  pub bad : is_bad_word (history_met setup trace turn (word_of t)) ≡ true
+  pub told : syn ≡ syndrome (history_met setup trace turn (word_of t))
+
+-- the cause of an error trap, by its type
+abbrev pub HasErrorCause : Setup → Trace → ℕ → ℕ → ℕ → ℕ → ℕ → ℕ → Type 0
+HasErrorCause setup trace c n step tt_ turn syn = ((tt_ ≡ 0x09) × IsDataError setup trace c n step turn syn)
+    ⊎ ((tt_ ≡ 0x2B) × IsSomeAnd (slice_get trace.transfers turn) (IsStoreError setup trace c step turn syn))
+
 -- no transfer of core c comes after this turn
 abbrev pub IsLastOf : ℕ → List Transfer → ℕ → Type 0
 IsLastOf c transfers turn = AllByRecursion (λ t. t.master ≢ c) (drop (turn + 1) transfers)
 
--- the cause of a core's end. Of the error traps only 09 comes so far, at the core's last transfer, in its last step.
+-- the cause of a core's end. Of the error traps 09 and 2B come so far, at the core's last transfer, in its last step.
 abbrev pub HasCause : Setup → Trace → ℕ → CoreResult → CoreEnd → Type 0
-HasCause setup trace c r (Stop tt_ place syn) = (tt_ ≡ 0x09) × (IsDataError setup trace c r.n (r.steps - 1) place syn × IsLastOf c trace.transfers place)
+HasCause setup trace c r (Stop tt_ place syn) = HasErrorCause setup trace c r.n (r.steps - 1) tt_ place syn × IsLastOf c trace.transfers place
 HasCause setup trace c r _ = ⊤
 
 abbrev pub StopCauseAt : Setup → Trace → ℕ → Type 0

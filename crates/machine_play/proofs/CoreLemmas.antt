@@ -1,14 +1,15 @@
 -- What an instruction comes to, by the line in the hand.
-use Rattle.std.proofs.Common.{◌≡◌, ℕ, ◌+◌, ◌<◌, ◌==◌, Bool, true, false, List, [], ◌∷◌, ◌++◌, length, Option, Some, None, cond, refl, ap, sym, subst, ◌∙◌, inl, inr, ◌⊎◌, is_some, arith}
-use Rattle.std.proofs.lemmas.Bool.{cases_Bool}
+use Rattle.std.proofs.Common.{◌≡◌, ℕ, ◌+◌, ◌<◌, ◌≤◌, ◌==◌, Bool, true, false, List, [], ◌∷◌, ◌++◌, length, Option, Some, None, cond, refl, ap, sym, subst, ◌∙◌, inl, inr, ◌⊎◌, is_some, arith, vec_len, IsTrue}
+use Rattle.std.proofs.lemmas.Bool.{cases_Bool, and_parts, leb-true, ltb-true}
 use Rattle.std.proofs.lemmas.Option.{same_Some}
 use Rattle.lf_model.specs.Start.{initial_byte, number_at}
-use Rattle.lf_model.specs.Operation.{entry_reads, touches, byte_got, kind_reads}
+use Rattle.lf_model.specs.Operation.{entry_reads, touches, byte_got, byte_of, kind_reads}
 use Rattle.lf_model.specs.State.{State}
-use Rattle.lf_model.specs.Effect.{Access, Effect}
+use Rattle.lf_model.specs.Effect.{Access, Effect, Site}
 use Rattle.lf_model.specs.Traps.{trap_effect}
-use Rattle.lf_model.specs.Run.{Run, operation, with_access, performed, effect_at_pc}
-use Rattle.lf_model.specs.Step.{Parts as Answers, first_bad, barrier_row, came_to, answer_of, run_after, Does, looked, counted}
+use Rattle.lf_model.specs.Value.{stored}
+use Rattle.lf_model.specs.Run.{Run, operation, with_access, performed, site_of, effect_at_pc}
+use Rattle.lf_model.specs.Step.{Parts as Answers, first_bad, barrier_row, came_to, answer_of, run_after, Does, looked, counted, IsSound, state_of, Seen}
 use Rattle.lf_model.specs.declared.bus.Entry.{Entry}
 use Rattle.lf_model.specs.declared.bus.OpKind.{OpKind}
 use Rattle.lf_model.specs.declared.bus.OpKind.TheVariants as ops
@@ -17,21 +18,24 @@ use Rattle.lf_model.specs.declared.bus.Why.TheVariants.{Absent}
 use Rattle.lf_model.specs.declared.control.Arch.{Arch}
 use Rattle.lf_model.specs.declared.setup.Setup.{Setup}
 use Rattle.lf_model.specs.declared.step.Did.{Did}
-use Rattle.lf_model.specs.declared.step.Did.TheVariants.{Retired, Need, Halt}
-use Rattle.lf_model.specs.declared.step.Turn.TheVariants.{Load}
+use Rattle.lf_model.specs.declared.step.Did.TheVariants.{Retired, Turned, Need, Halt, Stop}
+use Rattle.lf_model.specs.declared.step.Turn.TheVariants.{Load, Atomic}
+use Rattle.v8_exec.specs.Accesses.{atomic_access}
 use Rattle.v8_exec.specs.Frame.{Counts}
+use Rattle.ahb_bus.specs.Storing.{is_atomic_length}
 use Rattle.machine_play.specs.declared.hand.Hand.{Hand}
 use Rattle.machine_play.specs.declared.parts.Parts.{Parts}
-use Rattle.machine_play.specs.Hand.{byte_in, has_bytes, parts_with, IsHandOf}
-use Rattle.machine_play.specs.Seen.{seen_of, run_of}
-use Rattle.machine_play.specs.Memory.{NumberedFrom, ReadsEach, RunIs, halted, byte_after}
-use Rattle.machine_play.specs.Transfers.{line_of}
-use Rattle.machine_play.specs.Core.{IsCore, HandFits, IsWordAccess, Makes, IsLoadAt, Comes}
+use Rattle.machine_play.specs.Hand.{byte_in, has_bytes, look_in, parts_with, IsHandOf}
+use Rattle.machine_play.specs.Seen.{seen_of, run_of, room_of}
+use Rattle.machine_play.specs.Memory.{entry_enters, NumberedFrom, ReadsEach, RunIs, halted, byte_after}
+use Rattle.machine_play.specs.Service.{line_of}
+use Rattle.machine_play.specs.Core.{IsCore, Runs, HandFits, FitsRam, MakesNothing, MakesLoad, MakesStore, Makes, IsLoadAt, IsAtomicAt, Misses, NeedsAtomic, Halts, Comes}
 use Rattle.machine_play.specs.Core.Makes.{Nothing, ALoad, AStore}
 use Rattle.machine_play.proofs.EffectLemmas.{AccessFits, IsPlain, IsTrap, known}
-use Rattle.machine_play.proofs.EffectLemmas.AccessFits.{None_asked, Load_asked, Store_asked}
+use Rattle.machine_play.proofs.EffectLemmas.AccessFits.{None_asked, Load_asked, Store_asked, Atomic_asked}
 use Rattle.machine_play.proofs.RunLemmas.{IsAnswer, run_further}
 use Rattle.machine_play.proofs.OneCore.{numbered_push}
+use Rattle.machine_play.proofs.NumberLemmas.{byte_of_number}
 use Rattle.machine_play.proofs.MemoryLemmas.{reads_push, load_reads}
 
 none_bad : (hand : Option Hand) (window : ℕ) (registers : List ℕ) → first_bad (parts_with hand) window registers ≡ None
@@ -46,25 +50,29 @@ no_barrier hand None = refl
 no_barrier hand (Some why) = refl
 
 -- what an instruction comes to that takes no trap
-nothing_comes : (hand : Option Hand) (s : State) (e : Effect) → e.trap ≡ None → e.access ≡ None → came_to (parts_with hand) s (Some e) ≡ Retired
+nothing_comes : (hand : Option Hand) (s : State) (e : Effect) → e.trap ≡ None → e.access ≡ None → came_to (parts_with hand) s e ≡ Retired
 nothing_comes hand s e trap access = rw (none_bad hand s.ctl.cwp e.reads, trap, access, no_barrier hand e.barrier) refl
 
-store_comes : (hand : Option Hand) (s : State) (e : Effect) (a : Access) → e.trap ≡ None → e.access ≡ Some a → a.kind ≡ ops.Store → came_to (parts_with hand) s (Some e) ≡ Retired
+store_comes : (hand : Option Hand) (s : State) (e : Effect) (a : Access) → e.trap ≡ None → e.access ≡ Some a → a.kind ≡ ops.Store → came_to (parts_with hand) s e ≡ Retired
 store_comes hand s e a trap access kind = rw (none_bad hand s.ctl.cwp e.reads, trap, access, kind, no_barrier hand e.barrier) refl
 
 load_hits : (h : Hand) (s : State) (e : Effect) (a : Access) → e.trap ≡ None → e.access ≡ Some a → a.kind ≡ ops.Load → has_bytes h a.addr a.len ≡ true
-    → came_to (parts_with (Some h)) s (Some e) ≡ Retired
+    → came_to (parts_with (Some h)) s e ≡ Retired
 load_hits h s e a trap access kind has = rw (none_bad (Some h) s.ctl.cwp e.reads, trap, access, kind, has, no_barrier (Some h) e.barrier) refl
 
 load_misses : (s : State) (e : Effect) (a : Access) → e.trap ≡ None → e.access ≡ Some a → a.kind ≡ ops.Load
-    → came_to (parts_with None) s (Some e) ≡ Need (Load a.addr a.len Absent)
+    → came_to (parts_with None) s e ≡ Need (Load a.addr a.len Absent)
 load_misses s e a trap access kind = rw (none_bad None s.ctl.cwp e.reads, trap, access, kind) refl
 
+atomic_needs : (hand : Option Hand) (s : State) (e : Effect) (a : Access) → e.trap ≡ None → e.access ≡ Some a → a.kind ≡ ops.Atomic
+    → came_to (parts_with hand) s e ≡ Need (Atomic a.addr a.len a.put a.rd)
+atomic_needs hand s e a trap access kind = rw (none_bad hand s.ctl.cwp e.reads, trap, access, kind) refl
+
 -- a trap enters the handler, or halts the core in the state as it was
-trap_enters : (hand : Option Hand) (s : State) (tt_ : ℕ) (registers : List ℕ) → s.ctl.et ≡ true → came_to (parts_with hand) s (Some (trap_effect tt_ registers s)) ≡ Retired
+trap_enters : (hand : Option Hand) (s : State) (tt_ : ℕ) (registers : List ℕ) → s.ctl.et ≡ true → came_to (parts_with hand) s (trap_effect tt_ registers s) ≡ Retired
 trap_enters hand s tt_ registers enabled = rw (none_bad hand s.ctl.cwp registers, enabled) refl
 
-trap_halts : (hand : Option Hand) (s : State) (tt_ : ℕ) (registers : List ℕ) → s.ctl.et ≡ false → came_to (parts_with hand) s (Some (trap_effect tt_ registers s)) ≡ Halt tt_
+trap_halts : (hand : Option Hand) (s : State) (tt_ : ℕ) (registers : List ℕ) → s.ctl.et ≡ false → came_to (parts_with hand) s (trap_effect tt_ registers s) ≡ Halt tt_
 trap_halts hand s tt_ registers disabled = rw (none_bad hand s.ctl.cwp registers, disabled) refl
 
 -- with a line in the hand, the instruction at PC is the load that waits for it
@@ -77,9 +85,9 @@ record WaitsFor (setup : Setup) (r : Run) (h : Hand) (e : Effect) : Type 0 where
   pub line : h.line ≡ line_of a.addr
   pub bytes : (i : ℕ) → i < a.len → byte_in h (a.addr + i) ≡ byte_after setup r.ops (a.addr + i)
 
-waits : (setup : Setup) (r : Run) (h : Hand) (e : Effect) → IsHandOf setup r h → effect_at_pc setup 0 r.state ≡ Some e → WaitsFor setup r h e
+waits : (setup : Setup) (r : Run) (h : Hand) (e : Effect) → IsHandOf setup r h → effect_at_pc setup 0 r.state ≡ e → WaitsFor setup r h e
 waits setup r h e fits its =
-    let same : e ≡ fits.e = same_Some e fits.e (sym its ∙ fits.its) in
+    let same : e ≡ fits.e = sym its ∙ fits.its in
     record {
       a = fits.a;
       trap = ap (λ (x : Effect). x.trap) same ∙ fits.trap;
@@ -128,9 +136,9 @@ record Before (setup : Setup) (hand : Option Hand) (n : ℕ) (old new : Run) (di
   pub run : RunIs setup n old
   pub goes : is_some old.state.halt ≡ false
   pub fits : HandFits setup old hand
-  pub its : effect_at_pc setup 0 old.state ≡ Some e
-  pub answer : did ≡ came_to (parts_with hand) old.state (Some e)
-  pub leaves : new ≡ run_after 0 (parts_with hand) did (Some e) old
+  pub its : effect_at_pc setup 0 old.state ≡ e
+  pub answer : did ≡ came_to (parts_with hand) old.state e
+  pub leaves : new ≡ run_after 0 (parts_with hand) did e old
 
 answer_is : (parts : Answers) (access : Option Access) → IsAnswer access (answer_of parts access)
 answer_is parts None = refl
@@ -147,7 +155,7 @@ record Retires (setup : Setup) (hand : Option Hand) (n : ℕ) (old new : Run) (e
 
 retires : (setup : Setup) (hand : Option Hand) (n : ℕ) (old new : Run) (did : Did) (e : Effect) → Before setup hand n old new did e → did ≡ Retired → Retires setup hand n old new e
 retires setup hand n old new did e b is =
-    let next : new ≡ performed 0 (answer_of (parts_with hand) e.access) e old = subst (λ (d : Did). new ≡ run_after 0 (parts_with hand) d (Some e) old) is b.leaves in
+    let next : new ≡ performed 0 (answer_of (parts_with hand) e.access) e old = subst (λ (d : Did). new ≡ run_after 0 (parts_with hand) d e old) is b.leaves in
     record {
       next = next;
       run = subst (λ (r : Run). RunIs setup (n + 1) r) (sym next)
@@ -177,11 +185,11 @@ came_trap : (setup : Setup) (hand : Option Hand) (n : ℕ) (old new : Run) (did 
     → Came setup hand old did (n + counted did) new
 came_trap setup hand n old new did e true enabled b t =
     came_nothing setup hand n old new did e b
-    (b.answer ∙ ap (λ (x : Effect). came_to (parts_with hand) old.state (Some x)) t.is ∙ trap_enters hand old.state t.tt_ t.registers enabled)
+    (b.answer ∙ ap (λ (x : Effect). came_to (parts_with hand) old.state x) t.is ∙ trap_enters hand old.state t.tt_ t.registers enabled)
     (ap (λ (x : Effect). x.access) t.is)
 came_trap setup hand n old new did e false disabled b t =
-    let is : did ≡ Halt t.tt_ = b.answer ∙ ap (λ (x : Effect). came_to (parts_with hand) old.state (Some x)) t.is ∙ trap_halts hand old.state t.tt_ t.registers disabled in
-    let same : new ≡ old = subst (λ (d : Did). new ≡ run_after 0 (parts_with hand) d (Some e) old) is b.leaves in
+    let is : did ≡ Halt t.tt_ = b.answer ∙ ap (λ (x : Effect). came_to (parts_with hand) old.state x) t.is ∙ trap_halts hand old.state t.tt_ t.registers disabled in
+    let same : new ≡ old = subst (λ (d : Did). new ≡ run_after 0 (parts_with hand) d e old) is b.leaves in
     let empty : hand ≡ None = no_hand setup old hand b.fits (λ h fits. not_none t.tt_ (sym (ap (λ (x : Effect). x.trap) t.is) ∙ (waits setup old h e fits b.its).trap)) in
     let none : e.access ≡ None = ap (λ (x : Effect). x.access) t.is in
     let done : performed 0 0 e old ≡ halted t.tt_ old = rw (t.is, disabled) refl in
@@ -193,8 +201,8 @@ came_trap setup hand n old new did e false disabled b t =
     })
 
 came_store : (setup : Setup) (hand : Option Hand) (n : ℕ) (old new : Run) (did : Did) (e : Effect) (a : Access) → Before setup hand n old new did e → e.trap ≡ None → e.access ≡ Some a
-    → a.kind ≡ ops.Store → IsWordAccess setup.config.ram a → Came setup hand old did (n + counted did) new
-came_store setup hand n old new did e a b trap access kind word =
+    → a.kind ≡ ops.Store → FitsRam setup.config.ram a.addr a.len → Came setup hand old did (n + counted did) new
+came_store setup hand n old new did e a b trap access kind fits_ram =
     let is : did ≡ Retired = b.answer ∙ store_comes hand old.state e a trap access kind in
     let r = retires setup hand n old new did e b is in
     let got : ℕ = answer_of (parts_with hand) (Some a) in
@@ -204,7 +212,7 @@ came_store setup hand n old new did e a b trap access kind word =
     let same : w.a ≡ a = same_Some w.a a (sym w.access ∙ access) in
     load_no_store w.a.kind w.kind (ap (λ (x : Access). x.kind) same ∙ kind)) in
     as_retired setup hand old new did n is r.run
-    (AStore (operation 0 (length old.ops) got a) (record { empty = empty; kind = kind; len = word.len; aligned = word.aligned; in_ram = word.in_ram; pushed = pushed }))
+    (AStore (operation 0 (length old.ops) got a) (record { empty = empty; kind = kind; fits = fits_ram; pushed = pushed }))
     (keeps_pushed setup old.ops new.ops got a pushed (λ reader. absurd (store_no_reader a.kind kind reader)))
   where
     load_no_store : (kind : OpKind) → kind ≡ ops.Load → kind ≡ ops.Store → ⊥
@@ -233,52 +241,66 @@ came_hit setup h n old new did e a b trap access kind =
     load_reads (initial_byte setup.image) old.ops (operation 0 (length old.ops) got a) (byte_in h) value (λ i. omega arith) bytes))
 
 came_miss : (setup : Setup) (n : ℕ) (old new : Run) (did : Did) (e : Effect) (a : Access) → Before setup None n old new did e → e.trap ≡ None → e.access ≡ Some a
-    → a.kind ≡ ops.Load → IsWordAccess setup.config.ram a → Came setup None old did (n + counted did) new
-came_miss setup n old new did e a b trap access kind word =
+    → a.kind ≡ ops.Load → FitsRam setup.config.ram a.addr a.len → Came setup None old did (n + counted did) new
+came_miss setup n old new did e a b trap access kind fits_ram =
     let is : did ≡ Need (Load a.addr a.len Absent) = b.answer ∙ load_misses old.state e a trap access kind in
-    let same : new ≡ old = subst (λ (d : Did). new ≡ run_after 0 (parts_with None) d (Some e) old) is b.leaves in
+    let same : new ≡ old = subst (λ (d : Did). new ≡ run_after 0 (parts_with None) d e old) is b.leaves in
     subst (λ (d : Did). Came setup None old d (n + counted d) new) (sym is) (record {
       comes = record {
         empty = refl;
         same = same;
         asked = subst (λ (r : Run). IsLoadAt setup r a.addr a.len) (sym same)
-            (record { e = e; a = a; its = b.its; trap = trap; access = access; kind = kind; word = word; addr_is = refl; len_is = refl });
+            (record { e = e; a = a; its = b.its; trap = trap; access = access; kind = kind; fits = fits_ram; addr_is = refl; len_is = refl });
       };
       keeps = keeps_same setup old.ops new.ops (ap (λ (r : Run). r.ops) same);
     })
 
 came_load : (setup : Setup) (hand : Option Hand) (n : ℕ) (old new : Run) (did : Did) (e : Effect) (a : Access) → Before setup hand n old new did e → e.trap ≡ None → e.access ≡ Some a
-    → a.kind ≡ ops.Load → IsWordAccess setup.config.ram a → Came setup hand old did (n + counted did) new
-came_load setup None n old new did e a b trap access kind word = came_miss setup n old new did e a b trap access kind word
-came_load setup (Some h) n old new did e a b trap access kind word = came_hit setup h n old new did e a b trap access kind
+    → a.kind ≡ ops.Load → FitsRam setup.config.ram a.addr a.len → Came setup hand old did (n + counted did) new
+came_load setup None n old new did e a b trap access kind fits_ram = came_miss setup n old new did e a b trap access kind fits_ram
+came_load setup (Some h) n old new did e a b trap access kind fits_ram = came_hit setup h n old new did e a b trap access kind
+
+-- an atomic needs its turn
+came_atomic : (setup : Setup) (hand : Option Hand) (n : ℕ) (old new : Run) (did : Did) (e : Effect) (a : Access) → Before setup hand n old new did e → e.trap ≡ None → e.access ≡ Some a
+    → a ≡ atomic_access a.addr a.len a.put a.rd → IsTrue (is_atomic_length a.len) → FitsRam setup.config.ram a.addr a.len → Came setup hand old did (n + counted did) new
+came_atomic setup hand n old new did e a b trap access same size fits_ram =
+    let kind : a.kind ≡ ops.Atomic = ap (λ (x : Access). x.kind) same in
+    let is : did ≡ Need (Atomic a.addr a.len a.put a.rd) = b.answer ∙ atomic_needs hand old.state e a trap access kind in
+    let unchanged : new ≡ old = subst (λ (d : Did). new ≡ run_after 0 (parts_with hand) d e old) is b.leaves in
+    let empty : hand ≡ None = no_hand setup old hand b.fits (λ h fits.
+    let w = waits setup old h e fits b.its in
+    load_no_atomic w.a.kind w.kind (ap (λ (x : Access). x.kind) (same_Some w.a a (sym w.access ∙ access)) ∙ kind)) in
+    subst (λ (d : Did). Came setup hand old d (n + counted d) new) (sym is) (record {
+      comes = record {
+        empty = empty;
+        same = unchanged;
+        asked = subst (λ (r : Run). IsAtomicAt setup r a.addr a.len a.put a.rd) (sym unchanged)
+            (record { e = e; its = b.its; access = access ∙ ap Some same; answer = atomic_needs None old.state e a trap access kind; size = size; fits = fits_ram });
+      };
+      keeps = keeps_same setup old.ops new.ops (ap (λ (r : Run). r.ops) unchanged);
+    })
+  where
+    load_no_atomic : (kind : OpKind) → kind ≡ ops.Load → kind ≡ ops.Atomic → ⊥
+    load_no_atomic kind load atomic = cc
 
 came_plain : (setup : Setup) (hand : Option Hand) (n : ℕ) (old new : Run) (did : Did) (e : Effect) → Before setup hand n old new did e → e.trap ≡ None → AccessFits setup.config.ram e.access
     → Came setup hand old did (n + counted did) new
 came_plain setup hand n old new did e b trap (None_asked access) =
     came_nothing setup hand n old new did e b (b.answer ∙ nothing_comes hand old.state e trap access) access
-came_plain setup hand n old new did e b trap (Load_asked a access kind word) = came_load setup hand n old new did e a b trap access kind word
-came_plain setup hand n old new did e b trap (Store_asked a access kind word) = came_store setup hand n old new did e a b trap access kind word
+came_plain setup hand n old new did e b trap (Load_asked a access kind fits_ram) = came_load setup hand n old new did e a b trap access kind fits_ram
+came_plain setup hand n old new did e b trap (Store_asked a access kind fits_ram) = came_store setup hand n old new did e a b trap access kind fits_ram
+came_plain setup hand n old new did e b trap (Atomic_asked a access same size fits_ram) = came_atomic setup hand n old new did e a b trap access same size fits_ram
 
 came_by : (setup : Setup) (hand : Option Hand) (n : ℕ) (old new : Run) (did : Did) (e : Effect) → Before setup hand n old new did e → IsTrap old.state e ⊎ IsPlain setup.config.ram e
     → Came setup hand old did (n + counted did) new
 came_by setup hand n old new did e b (inl trap) = came_trap setup hand n old new did e old.state.ctl.et refl b trap
 came_by setup hand n old new did e b (inr plain) = came_plain setup hand n old new did e b plain.trap plain.access
 
-came_of : (setup : Setup) (hand : Option Hand) (n : ℕ) (old new : Run) (did : Did) (o : Option Effect) → effect_at_pc setup 0 old.state ≡ o → RunIs setup n old → is_some old.state.halt ≡ false
-    → HandFits setup old hand → did ≡ came_to (parts_with hand) old.state o → new ≡ run_after 0 (parts_with hand) did o old → Came setup hand old did (n + counted did) new
-came_of setup hand n old new did None its run goes fits answer leaves =
-    let same : new ≡ old = subst (λ (d : Did). new ≡ run_after 0 (parts_with hand) d None old) answer leaves in
-    let empty : hand ≡ None = no_hand setup old hand fits (λ h f. not_none f.e (sym f.its ∙ its)) in
-    subst (λ (d : Did). Came setup hand old d (n + counted d) new) (sym answer) (record {
-      comes = record { empty = empty; same = same; none = ap (λ (r : Run). effect_at_pc setup 0 r.state) same ∙ its };
-      keeps = keeps_same setup old.ops new.ops (ap (λ (r : Run). r.ops) same);
-    })
-came_of setup hand n old new did (Some e) its run goes fits answer leaves =
-    came_by setup hand n old new did e (record { run = run; goes = goes; fits = fits; its = its; answer = answer; leaves = leaves }) (known setup 0 old.state e its)
-
 pub came : (setup : Setup) (hand : Option Hand) (n : ℕ) (old new : Run) (did : Did) → RunIs setup n old → is_some old.state.halt ≡ false → HandFits setup old hand
     → Does 0 (parts_with hand) (effect_at_pc setup 0 old.state) did old new → Came setup hand old did (n + counted did) new
-came setup hand n old new did run goes fits does = came_of setup hand n old new did (effect_at_pc setup 0 old.state) refl run goes fits does.answer does.leaves
+came setup hand n old new did run goes fits does =
+    came_by setup hand n old new did (effect_at_pc setup 0 old.state)
+    (record { run = run; goes = goes; fits = fits; its = refl; answer = does.answer; leaves = does.leaves }) (known setup 0 old.state)
 
 -- the core after an instruction
 pub core_after : (setup : Setup) (hand : Option Hand) (arch arch' : Arch) (parts parts' : Parts) (did : Did) (spare left : ℕ) → IsCore setup arch parts

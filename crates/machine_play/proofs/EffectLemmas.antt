@@ -1,34 +1,34 @@
--- What an instruction asks of its core: a trap, or at most one access to a word of RAM.
-use Rattle.std.proofs.Common.{◌≡◌, ℕ, ◌==◌, ◌%◌, Bool, true, false, ◌&&◌, ◌||◌, not, List, [], ◌∷◌, Option, Some, None, cond, refl, ap, sym, subst, ◌∙◌, inl, inr, ◌⊎◌, option_map}
+-- What an instruction asks of its core: a trap, or at most one access to bytes of RAM.
+use Rattle.std.proofs.Common.{◌≡◌, ℕ, ◌==◌, ◌%◌, Bool, true, false, ◌&&◌, ◌||◌, not, List, [], ◌∷◌, Option, Some, None, cond, refl, ap, sym, subst, ◌∙◌, inl, inr, ◌⊎◌, IsTrue}
 use Rattle.std.proofs.lemmas.Bool.{cases_Bool, or_parts, eqb-true}
-use Rattle.std.proofs.lemmas.Option.{same_Some}
-use Rattle.std.specs.Prelude.{option_and_then}
 use Rattle.lf_model.specs.Start.{is_text_word, word_at, output_word, is_in_ram, touches_text}
-use Rattle.lf_model.specs.Instructions.{registers_read}
-use Rattle.lf_model.specs.State.{State, register}
+use Rattle.lf_model.specs.Instructions.{registers_read, instruction_of}
+use Rattle.lf_model.specs.State.{State}
 use Rattle.lf_model.specs.Effect.{Site, Access, Effect, sum_of_operands}
-use Rattle.lf_model.specs.Traps.{when, first_trap, trap_effect, unless_trap, fetch_trap}
-use Rattle.lf_model.specs.Memory.{load_effect, output_effect, store_effect, word_effect, mem_effect}
-use Rattle.lf_model.specs.StateRegisters.{read_state_effect, write_state_effect}
-use Rattle.lf_model.specs.Effects.{ordinary_trap, completed, effect}
-use Rattle.lf_model.specs.Built.{built}
+use Rattle.lf_model.specs.Traps.{when, first_trap, traps_in_order, trap_effect, unless_trap, fetch_trap}
+use Rattle.lf_model.specs.Memory.{size_of, access_misaligned, access_refused, output_effect, store_effect, mem_effect}
+use Rattle.lf_model.specs.Alternate.{is_plain_space, is_control_space, is_word_form, control_effect, alternate_effect, alternate_refused}
+use Rattle.lf_model.specs.OrdinaryTraps.{ordinary_trap, checks_of, is_misaligned, is_refused}
+use Rattle.lf_model.specs.Effects.{completed, effect}
 use Rattle.lf_model.specs.Run.{site_of, effect_at_pc}
 use Rattle.lf_model.specs.declared.setup.Setup.{Setup}
+use Rattle.lf_model.specs.declared.trap.Checks.{Checks}
 use Rattle.lf_model.specs.declared.bus.OpKind.TheVariants as ops
-use Rattle.lf_model.specs.declared.instruction.Src.{Src}
-use Rattle.lf_model.specs.declared.instruction.StateName.{StateName}
-use Rattle.lf_model.specs.declared.instruction.StateName.TheVariants.{Y}
+use Rattle.lf_model.specs.declared.instruction.Src.TheVariants.{Reg}
 use Rattle.lf_model.specs.declared.instruction.MemName.{MemName}
-use Rattle.lf_model.specs.declared.instruction.MemName.TheVariants.{Ld, St}
+use Rattle.lf_model.specs.declared.instruction.MemName.TheVariants.{Ld, Ldub, Lduh, Ldd, St, Stb, Sth, Std, Ldsb, Ldsh, Ldstub, Swap}
 use Rattle.lf_model.specs.declared.instruction.Instr.{Instr}
-use Rattle.lf_model.specs.declared.instruction.Instr.TheVariants.{Illegal, AltIllegal, FpOff, CpOff, FpQueue, CpQueue, Stbar, Call, Sethi, Bicc, Calc, Ticc, ReadState, ReadAsr, WriteState, WriteAsr, Jmpl, Flush, Mem}
-use Rattle.machine_play.specs.Core.{IsWordAccess}
+use Rattle.lf_model.specs.declared.instruction.Instr.TheVariants.{Illegal, AltIllegal, FpOff, CpOff, FpQueue, CpQueue, Stbar, Call, Sethi, Bicc, Calc, Ticc, ReadState, ReadAsr, WriteState, WriteAsr, Jmpl, Rett, Flush, Save, Restore, Mem, Alternate}
+use Rattle.v8_exec.specs.Accesses.{atomic_access}
+use Rattle.ahb_bus.specs.Storing.{is_atomic_length}
+use Rattle.machine_play.specs.Core.{FitsRam}
 
--- the access, if there is one, is a load or a store of a word of RAM
+-- the access, if there is one, is a load, a store or an atomic of bytes of RAM
 pub data AccessFits (ram : ℕ) (access : Option Access) : Type 0 where
   None_asked : access ≡ None → AccessFits ram access
-  Load_asked : (a : Access) → access ≡ Some a → a.kind ≡ ops.Load → IsWordAccess ram a → AccessFits ram access
-  Store_asked : (a : Access) → access ≡ Some a → a.kind ≡ ops.Store → IsWordAccess ram a → AccessFits ram access
+  Load_asked : (a : Access) → access ≡ Some a → a.kind ≡ ops.Load → FitsRam ram a.addr a.len → AccessFits ram access
+  Store_asked : (a : Access) → access ≡ Some a → a.kind ≡ ops.Store → FitsRam ram a.addr a.len → AccessFits ram access
+  Atomic_asked : (a : Access) → access ≡ Some a → a ≡ atomic_access a.addr a.len a.put a.rd → IsTrue (is_atomic_length a.len) → FitsRam ram a.addr a.len → AccessFits ram access
 
 -- an effect without a trap
 pub record IsPlain (ram : ℕ) (e : Effect) : Type 0 where
@@ -48,122 +48,161 @@ IsKnown ram s e = IsTrap s e ⊎ IsPlain ram e
 quiet : (ram : ℕ) (e : Effect) → e.trap ≡ None → e.access ≡ None → IsPlain ram e
 quiet ram e trap access = record { trap = trap; access = None_asked access }
 
-is_some_of : (ram : ℕ) (e f : Effect) → Some e ≡ Some f → IsPlain ram e → IsPlain ram f
-is_some_of ram e f is p = subst (λ (x : Effect). IsPlain ram x) (same_Some e f is) p
-
 -- ---- the traps of an address
 
--- no test before holds where a trap does not come
-none_when : (test : Bool) (tt_ : ℕ) (rest : List (Option ℕ)) → first_trap (when test tt_ ∷ rest) ≡ None → (test ≡ false) × (first_trap rest ≡ None)
-none_when true tt_ rest h = absurd cc
-none_when false tt_ rest h = (refl, h)
+-- no trap of an address is taken
+pub record IsAllowed (c : Checks) : Type 0 where
+  pub align : c.align ≡ false
+  pub access : c.access ≡ false
 
-word_of : (ram addr : ℕ) (misaligned refused : Bool) (a : Access) → a.addr ≡ addr → a.len ≡ 4 → not (addr % 4 == 0) ≡ misaligned → not (is_in_ram ram addr 4) ≡ refused
-    → misaligned ≡ false → refused ≡ false → IsWordAccess ram a
-word_of ram addr misaligned refused a at len first second no_first no_second = record {
-  len = len;
-  aligned = ap (λ (n : ℕ). n % 4) at ∙ eqb-true (addr % 4) 0 (not_false (addr % 4 == 0) (first ∙ no_first));
-  in_ram = ap (λ (n : ℕ). is_in_ram ram n 4) at ∙ not_false (is_in_ram ram addr 4) (second ∙ no_second);
+-- none of the first nine traps comes where no trap comes
+none_of : (fetch privileged illegal fp cp over under align access : Bool) (rest : List (Option ℕ))
+    → first_trap (when fetch 0x01 ∷ when privileged 0x03 ∷ when illegal 0x02 ∷ when fp 0x04 ∷ when cp 0x24 ∷ when over 0x05 ∷ when under 0x06 ∷ when align 0x07 ∷ when access 0x09 ∷ rest) ≡ None
+    → (align ≡ false) × (access ≡ false)
+none_of true privileged illegal fp cp over under align access rest h = absurd cc
+none_of false true illegal fp cp over under align access rest h = absurd cc
+none_of false false true fp cp over under align access rest h = absurd cc
+none_of false false false true cp over under align access rest h = absurd cc
+none_of false false false false true over under align access rest h = absurd cc
+none_of false false false false false true under align access rest h = absurd cc
+none_of false false false false false false true align access rest h = absurd cc
+none_of false false false false false false false true access rest h = absurd cc
+none_of false false false false false false false false true rest h = absurd cc
+none_of false false false false false false false false false rest h = (refl, refl)
+
+allowed : (c : Checks) → first_trap (traps_in_order c) ≡ None → IsAllowed c
+allowed c none =
+    let tests = none_of c.fetch c.privileged c.illegal c.fp_off c.cp_off c.over c.under c.align c.access (when c.tag 0x0a ∷ when c.zero 0x2a ∷ c.ticc ∷ []) none in
+    record { align = tests.0; access = tests.1 }
+
+not_false : (b : Bool) → not b ≡ false → b ≡ true
+not_false true h = refl
+not_false false h = absurd cc
+
+-- ---- each access
+
+-- an access that is allowed is one to bytes of RAM
+fits_of : (ram addr len : ℕ) → (IsTrue ((len == 1 || len == 2) || len == 4 || len == 8)) → not (addr % len == 0) ≡ false → not (is_in_ram ram addr len) ≡ false → FitsRam ram addr len
+fits_of ram addr len size aligned inside = record {
+  size = size;
+  aligned = eqb-true (addr % len) 0 (not_false (addr % len == 0) aligned);
+  in_ram = not_false (is_in_ram ram addr len) inside;
 }
-  where
-    not_false : (b : Bool) → not b ≡ false → b ≡ true
-    not_false true h = refl
-    not_false false h = absurd cc
 
--- the traps behind those of an address, none of which a load or store takes
-abbrev others : List (Option ℕ)
-others = when false 0x0a ∷ when false 0x2a ∷ None ∷ []
+-- the second of two tests that fail
+second_false : (a b : Bool) → (a || b) ≡ false → b ≡ false
+second_false a b h = (or_parts a b h).1
 
-load_plain : (registers : List ℕ) (site : Site) (rd rs1 : ℕ) (src : Src) (s : State) → ordinary_trap site s (Mem Ld rd rs1 src) ≡ None
-    → IsPlain site.ram (load_effect registers (sum_of_operands s rs1 src) 4 rd s)
-load_plain registers site rd rs1 src s none =
-    let addr = sum_of_operands s rs1 src in
-    let first = none_when (not (addr % 4 == 0)) 0x07 (when (not (is_in_ram site.ram addr 4)) 0x09 ∷ others) none in
-    let second = none_when (not (is_in_ram site.ram addr 4)) 0x09 others first.1 in
-    record { trap = refl; access = Load_asked _ refl refl (word_of site.ram addr _ _ _ refl refl refl refl first.0 second.0) }
+first_false : (a b : Bool) → (a || b) ≡ false → a ≡ false
+first_false a b h = (or_parts a b h).0
 
-store_plain : (registers : List ℕ) (site : Site) (rd rs1 : ℕ) (src : Src) (s : State) → ordinary_trap site s (Mem St rd rs1 src) ≡ None
-    → IsPlain site.ram (word_effect registers (sum_of_operands s rs1 src) (register s rd) s)
-store_plain registers site rd rs1 src s none =
-    let addr = sum_of_operands s rs1 src in
-    let refused = not (addr == output_word) && (touches_text site.image.text addr 4 || not (is_in_ram site.ram addr 4)) in
-    let first = none_when (not (addr % 4 == 0)) 0x07 (when refused 0x09 ∷ others) none in
-    let second = none_when refused 0x09 others first.1 in
-    by_address (addr == output_word) first.0 second.0
-  where
-    by_address : (output : Bool) → not (sum_of_operands s rs1 src % 4 == 0) ≡ false
-        → (not output && (touches_text site.image.text (sum_of_operands s rs1 src) 4 || not (is_in_ram site.ram (sum_of_operands s rs1 src) 4))) ≡ false
-        → IsPlain site.ram (cond output (output_effect registers (register s rd) s) (store_effect registers (sum_of_operands s rs1 src) 4 (register s rd) s))
-    by_address true aligned refused = quiet site.ram (output_effect registers (register s rd) s) refl refl
-    by_address false aligned refused =
-        let parts = or_parts (touches_text site.image.text (sum_of_operands s rs1 src) 4) (not (is_in_ram site.ram (sum_of_operands s rs1 src) 4)) refused in
-        record { trap = refl; access = Store_asked _ refl refl (word_of site.ram (sum_of_operands s rs1 src) _ _ _ refl refl refl refl aligned parts.1) }
+store_plain : (registers : List ℕ) (site : Site) (name : MemName) (addr rd : ℕ) (s : State) → IsTrue ((size_of name == 1 || size_of name == 2) || size_of name == 4 || size_of name == 8)
+    → access_misaligned name addr ≡ false → (touches_text site.image.text addr (size_of name) || not (is_in_ram site.ram addr (size_of name))) ≡ false
+    → IsPlain site.ram (store_effect registers name addr rd s)
+store_plain registers site name addr rd s size aligned allows =
+    record { trap = refl; access = Store_asked _ refl refl (fits_of site.ram addr (size_of name) size aligned (second_false _ _ allows)) }
 
-mem_plain : (registers : List ℕ) (site : Site) (name : MemName) (rd rs1 : ℕ) (src : Src) (s : State) (e : Effect) → ordinary_trap site s (Mem name rd rs1 src) ≡ None
-    → mem_effect registers name rd rs1 src s ≡ Some e → IsPlain site.ram e
-mem_plain registers site Ld rd rs1 src s e none is =
-    is_some_of site.ram (load_effect registers (sum_of_operands s rs1 src) 4 rd s) e is (load_plain registers site rd rs1 src s none)
-mem_plain registers site St rd rs1 src s e none is =
-    is_some_of site.ram (word_effect registers (sum_of_operands s rs1 src) (register s rd) s) e is (store_plain registers site rd rs1 src s none)
-mem_plain registers site _ rd rs1 src s e none is = absurd cc
+output_plain : (registers : List ℕ) (site : Site) (addr rd : ℕ) (s : State) (output : Bool) → access_misaligned St addr ≡ false
+    → (not output && (touches_text site.image.text addr 4 || not (is_in_ram site.ram addr 4))) ≡ false
+    → IsPlain site.ram (cond output (output_effect registers rd s) (store_effect registers St addr rd s))
+output_plain registers site addr rd s true aligned allows = quiet site.ram (output_effect registers rd s) refl refl
+output_plain registers site addr rd s false aligned allows = store_plain registers site St addr rd s refl aligned allows
+
+mem_plain : (registers : List ℕ) (site : Site) (name : MemName) (addr rd : ℕ) (s : State) → access_misaligned name addr ≡ false → access_refused site name addr ≡ false
+    → IsPlain site.ram (mem_effect registers name addr rd s)
+mem_plain registers site Ld addr rd s aligned allows = record { trap = refl; access = Load_asked _ refl refl (fits_of site.ram addr 4 refl aligned allows) }
+mem_plain registers site Ldub addr rd s aligned allows = record { trap = refl; access = Load_asked _ refl refl (fits_of site.ram addr 1 refl aligned allows) }
+mem_plain registers site Ldsb addr rd s aligned allows = record { trap = refl; access = Load_asked _ refl refl (fits_of site.ram addr 1 refl aligned allows) }
+mem_plain registers site Lduh addr rd s aligned allows = record { trap = refl; access = Load_asked _ refl refl (fits_of site.ram addr 2 refl aligned allows) }
+mem_plain registers site Ldsh addr rd s aligned allows = record { trap = refl; access = Load_asked _ refl refl (fits_of site.ram addr 2 refl aligned allows) }
+mem_plain registers site Ldd addr rd s aligned allows = record { trap = refl; access = Load_asked _ refl refl (fits_of site.ram addr 8 refl aligned allows) }
+mem_plain registers site St addr rd s aligned allows = output_plain registers site addr rd s (addr == output_word) aligned allows
+mem_plain registers site Stb addr rd s aligned allows = store_plain registers site Stb addr rd s refl aligned allows
+mem_plain registers site Sth addr rd s aligned allows = store_plain registers site Sth addr rd s refl aligned allows
+mem_plain registers site Std addr rd s aligned allows = store_plain registers site Std addr rd s refl aligned allows
+mem_plain registers site Ldstub addr rd s aligned allows =
+    record { trap = refl; access = Atomic_asked _ refl refl refl (fits_of site.ram addr 1 refl aligned (first_false _ _ allows)) }
+mem_plain registers site Swap addr rd s aligned allows =
+    record { trap = refl; access = Atomic_asked _ refl refl refl (fits_of site.ram addr 4 refl aligned (first_false _ _ allows)) }
+
+control_plain : (ram : ℕ) (registers : List ℕ) (name : MemName) (rd : ℕ) (s : State) → IsPlain ram (control_effect registers name rd s)
+control_plain ram registers Ld rd s = quiet ram _ refl refl
+control_plain ram registers St rd s = quiet ram _ refl refl
+control_plain ram registers Ldd rd s = quiet ram _ refl refl
+control_plain ram registers Ldub rd s = quiet ram _ refl refl
+control_plain ram registers Lduh rd s = quiet ram _ refl refl
+control_plain ram registers Ldsb rd s = quiet ram _ refl refl
+control_plain ram registers Ldsh rd s = quiet ram _ refl refl
+control_plain ram registers Stb rd s = quiet ram _ refl refl
+control_plain ram registers Sth rd s = quiet ram _ refl refl
+control_plain ram registers Std rd s = quiet ram _ refl refl
+control_plain ram registers Ldstub rd s = quiet ram _ refl refl
+control_plain ram registers Swap rd s = quiet ram _ refl refl
+
+space_plain : (registers : List ℕ) (site : Site) (name : MemName) (addr rd : ℕ) (s : State) (plain : Bool) (other : Bool) → access_misaligned name addr ≡ false
+    → cond plain (access_refused site name addr) other ≡ false → IsPlain site.ram (cond plain (mem_effect registers name addr rd s) (control_effect registers name rd s))
+space_plain registers site name addr rd s true other aligned allows = mem_plain registers site name addr rd s aligned allows
+space_plain registers site name addr rd s false other aligned allows = control_plain site.ram registers name rd s
 
 -- ---- each instruction
 
-read_plain : (ram : ℕ) (registers : List ℕ) (name : StateName) (rd : ℕ) (s : State) (e : Effect) → read_state_effect registers name rd s ≡ Some e → IsPlain ram e
-read_plain ram registers Y rd s e is = is_some_of ram _ e is (quiet ram _ refl refl)
-read_plain ram registers _ rd s e is = absurd cc
-
-write_plain : (ram : ℕ) (registers : List ℕ) (name : StateName) (rs1 : ℕ) (src : Src) (s : State) (e : Effect) → write_state_effect registers name rs1 src s ≡ Some e → IsPlain ram e
-write_plain ram registers Y rs1 src s e is = is_some_of ram _ e is (quiet ram _ refl refl)
-write_plain ram registers _ rs1 src s e is = absurd cc
-
-completed_plain : (registers : List ℕ) (site : Site) (s : State) (i : Instr) (e : Effect) → ordinary_trap site s i ≡ None → completed registers site s i ≡ Some e → IsPlain site.ram e
-completed_plain registers site s (Call disp30) e none is = is_some_of site.ram _ e is (quiet site.ram _ refl refl)
-completed_plain registers site s (Sethi rd imm22) e none is = is_some_of site.ram _ e is (quiet site.ram _ refl refl)
-completed_plain registers site s (Bicc condition a disp22) e none is = is_some_of site.ram _ e is (quiet site.ram _ refl refl)
-completed_plain registers site s (Calc name rd rs1 src) e none is = is_some_of site.ram _ e is (quiet site.ram _ refl refl)
-completed_plain registers site s (Jmpl rd rs1 src) e none is = is_some_of site.ram _ e is (quiet site.ram _ refl refl)
-completed_plain registers site s (ReadState name rd) e none is = read_plain site.ram registers name rd s e is
-completed_plain registers site s (ReadAsr rd rs1) e none is = is_some_of site.ram _ e is (quiet site.ram _ refl refl)
-completed_plain registers site s (WriteState name rs1 src) e none is = write_plain site.ram registers name rs1 src s e is
-completed_plain registers site s (Mem name rd rs1 src) e none is = mem_plain registers site name rd rs1 src s e none is
-completed_plain registers site s Stbar e none is = is_some_of site.ram _ e is (quiet site.ram _ refl refl)
-completed_plain registers site s (Flush rs1 src) e none is = is_some_of site.ram _ e is (quiet site.ram _ refl refl)
-completed_plain registers site s (WriteAsr rd rs1 src) e none is = is_some_of site.ram _ e is (quiet site.ram _ refl refl)
-completed_plain registers site s (Ticc condition rs1 src) e none is = is_some_of site.ram _ e is (quiet site.ram _ refl refl)
-completed_plain registers site s Illegal e none is = is_some_of site.ram _ e is (quiet site.ram _ refl refl)
-completed_plain registers site s AltIllegal e none is = is_some_of site.ram _ e is (quiet site.ram _ refl refl)
-completed_plain registers site s FpOff e none is = is_some_of site.ram _ e is (quiet site.ram _ refl refl)
-completed_plain registers site s CpOff e none is = is_some_of site.ram _ e is (quiet site.ram _ refl refl)
-completed_plain registers site s FpQueue e none is = is_some_of site.ram _ e is (quiet site.ram _ refl refl)
-completed_plain registers site s CpQueue e none is = is_some_of site.ram _ e is (quiet site.ram _ refl refl)
-completed_plain registers site s _ e none is = absurd cc
+completed_plain : (registers : List ℕ) (site : Site) (s : State) (i : Instr) → IsAllowed (checks_of site s i) → IsPlain site.ram (completed registers site s i)
+completed_plain registers site s (Mem name rd rs1 src) none = mem_plain registers site name (sum_of_operands s rs1 src) rd s none.align none.access
+completed_plain registers site s (Alternate name rd rs1 rs2 asi) none =
+    space_plain registers site name (sum_of_operands s rs1 (Reg rs2)) rd s (is_plain_space asi) (not (is_control_space asi && is_word_form name)) none.align none.access
+completed_plain registers site s (Call disp30) none = quiet site.ram _ refl refl
+completed_plain registers site s (Sethi rd imm22) none = quiet site.ram _ refl refl
+completed_plain registers site s (Bicc condition a disp22) none = quiet site.ram _ refl refl
+completed_plain registers site s (Calc name rd rs1 src) none = quiet site.ram _ refl refl
+completed_plain registers site s (Jmpl rd rs1 src) none = quiet site.ram _ refl refl
+completed_plain registers site s (Rett rs1 src) none = quiet site.ram _ refl refl
+completed_plain registers site s (Save rd rs1 src) none = quiet site.ram _ refl refl
+completed_plain registers site s (Restore rd rs1 src) none = quiet site.ram _ refl refl
+completed_plain registers site s (ReadState name rd) none = quiet site.ram _ refl refl
+completed_plain registers site s (ReadAsr rd rs1) none = quiet site.ram _ refl refl
+completed_plain registers site s (WriteState name rs1 src) none = quiet site.ram _ refl refl
+completed_plain registers site s (WriteAsr rd rs1 src) none = quiet site.ram _ refl refl
+completed_plain registers site s (Ticc condition rs1 src) none = quiet site.ram _ refl refl
+completed_plain registers site s (Flush rs1 src) none = quiet site.ram _ refl refl
+completed_plain registers site s Stbar none = quiet site.ram _ refl refl
+completed_plain registers site s Illegal none = quiet site.ram _ refl refl
+completed_plain registers site s AltIllegal none = quiet site.ram _ refl refl
+completed_plain registers site s FpOff none = quiet site.ram _ refl refl
+completed_plain registers site s FpQueue none = quiet site.ram _ refl refl
+completed_plain registers site s CpOff none = quiet site.ram _ refl refl
+completed_plain registers site s CpQueue none = quiet site.ram _ refl refl
 
 unless_known : (ram : ℕ) (trap : Option ℕ) (s : State) (e : Effect) → (trap ≡ None → IsPlain ram e) → IsKnown ram s (unless_trap trap s e)
 unless_known ram None s e h = inr (h refl)
 unless_known ram (Some tt_) s e h = inl (record { tt_ = tt_; registers = e.reads; is = refl })
 
-known_of : (ram : ℕ) (s : State) (e f : Effect) → Some e ≡ Some f → IsKnown ram s e → IsKnown ram s f
-known_of ram s e f is h = subst (λ (x : Effect). IsKnown ram s x) (same_Some e f is) h
-
-trapped_known : (ram : ℕ) (trap : Option ℕ) (s : State) (done : Option Effect) (e : Effect) → ((x : Effect) → trap ≡ None → done ≡ Some x → IsPlain ram x)
-    → option_map (unless_trap trap s) done ≡ Some e → IsKnown ram s e
-trapped_known ram trap s None e plain is = absurd cc
-trapped_known ram trap s (Some x) e plain is = known_of ram s (unless_trap trap s x) e is (unless_known ram trap s x (λ none. plain x none refl))
-
-effect_known : (site : Site) (s : State) (i : Instr) (e : Effect) → effect site s i ≡ Some e → IsKnown site.ram s e
+effect_known : (site : Site) (s : State) (i : Instr) → IsKnown site.ram s (effect site s i)
 unfolding effect
-effect_known site s i e is = trapped_known site.ram (ordinary_trap site s i) s (completed (registers_read i) site s i) e
-    (λ x none. completed_plain (registers_read i) site s i x none) is
-
-word_known : (site : Site) (s : State) (i : Option Instr) (e : Effect) → option_and_then (effect site s) i ≡ Some e → IsKnown site.ram s e
-word_known site s None e is = absurd cc
-word_known site s (Some i) e is = effect_known site s i e is
+effect_known site s i = unless_known site.ram (ordinary_trap site s i) s (completed (registers_read i) site s i)
+    (λ none. completed_plain (registers_read i) site s i (allowed (checks_of site s i) none))
 
 -- what the instruction at PC asks
-pub known : (setup : Setup) (c : ℕ) (s : State) (e : Effect) → effect_at_pc setup c s ≡ Some e → IsKnown setup.config.ram s e
+pub known : (setup : Setup) (c : ℕ) (s : State) → IsKnown setup.config.ram s (effect_at_pc setup c s)
 unfolding effect_at_pc
-known setup c s e is = elim (cases_Bool (is_text_word setup.image.text s.ctl.pc)) [
-  | inl text ↦ word_known (site_of setup c) s (built (word_at setup.image s.ctl.pc)) e (rw text at is)
-  | inr other ↦ inl (record { tt_ = 0x01; registers = []; is = sym (same_Some (fetch_trap s) e (rw other at is)) })
-]
+known setup c s = by_text (is_text_word setup.image.text s.ctl.pc)
+  where
+    by_text : (text : Bool) → IsKnown setup.config.ram s (cond text (effect (site_of setup c) s (instruction_of (word_at setup.image s.ctl.pc))) (fetch_trap s))
+    by_text true = effect_known (site_of setup c) s (instruction_of (word_at setup.image s.ctl.pc))
+    by_text false = inl (record { tt_ = 0x01; registers = []; is = refl })
+
+-- an instruction that makes an operation was fetched
+pub record IsFetched (setup : Setup) (c : ℕ) (s : State) : Type 0 where
+  pub i : Instr
+  pub is : effect_at_pc setup c s ≡ effect (site_of setup c) s i
+
+pub fetched : (setup : Setup) (c : ℕ) (s : State) (a : Access) → (effect_at_pc setup c s).access ≡ Some a → IsFetched setup c s
+unfolding effect_at_pc
+fetched setup c s a made = by_text (is_text_word setup.image.text s.ctl.pc) refl made
+  where
+    by_text : (text : Bool) → is_text_word setup.image.text s.ctl.pc ≡ text
+        → (cond text (effect (site_of setup c) s (instruction_of (word_at setup.image s.ctl.pc))) (fetch_trap s)).access ≡ Some a → IsFetched setup c s
+    by_text true is its = record {
+      i = instruction_of (word_at setup.image s.ctl.pc);
+      is = ap (λ (b : Bool). cond b (effect (site_of setup c) s (instruction_of (word_at setup.image s.ctl.pc))) (fetch_trap s)) is;
+    }
+    by_text false is its = absurd cc

@@ -5,8 +5,13 @@ mod OneCore
 mod EffectLemmas
 mod MemoryLemmas
 mod CoreLemmas
+mod StoringLemmas
 mod TurnLemmas
 mod StepLemmas
+mod ToldLemmas
+mod LineLemmas
+mod StopLemmas
+mod ExchangeLemmas
 mod OutcomeLemmas
 mod StartingLemmas
 mod TraceLemmas

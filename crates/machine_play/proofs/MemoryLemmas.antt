@@ -1,5 +1,5 @@
 -- Memory after one more operation.
-use Rattle.std.proofs.Common.{◌≡◌, ℕ, ◌+◌, ◌-◌, ◌*◌, ◌%◌, ◌^◌, ◌<◌, ◌≤◌, refl, ap, sym, subst, ◌∙◌, arith, inl, inr, get_or, cond, Bool, true, false, List, [], ◌∷◌, ◌++◌, nat_le, nat_lt, length, take, filter, length-append, length-set, set}
+use Rattle.std.proofs.Common.{◌≡◌, ℕ, zero, suc, ◌+◌, ◌-◌, ◌*◌, ◌/◌, ◌%◌, ◌^◌, ◌<◌, ◌≤◌, refl, ap, sym, subst, ◌∙◌, arith, inl, inr, get_or, cond, ◌⊎◌, Bool, true, false, List, [], ◌∷◌, ◌++◌, ◌&&◌, nat_le, nat_lt, length, take, filter, length-append, length-set, set}
 use Rattle.std.proofs.lemmas.Bool.{cases_eq, cases_Bool, and_parts, leb-true, ltb-true}
 use Rattle.std.proofs.Math.Seq.{get_or-append_seam, take-append_seam}
 use Rattle.std.proofs.lemmas.List.{get_or_append_left, take-append-le, append-nil, get_or-set_same, get_or-set_other}
@@ -12,7 +12,7 @@ use Rattle.ft_memory.specs.Memory.{place_of}
 use Rattle.lf_model.specs.declared.bus.Entry.{Entry}
 use Rattle.lf_model.specs.declared.setup.Setup.{Setup}
 use Rattle.machine_play.specs.Memory.{entry_enters, ReadsEach, byte_after, HoldsWords, HasBytes}
-use Rattle.machine_play.proofs.NumberLemmas.{byte_of_number, number_of_word}
+use Rattle.machine_play.proofs.NumberLemmas.{byte_of_number, number_of_word, number_small}
 use Rattle.machine_play.proofs.StartLemmas.{number_at-same}
 
 pub stored_push : (a : ℕ) (es : List Entry) (e : Entry) (byte : ℕ) → stored a (es ++ e ∷ []) byte ≡ cond (touches a e) (byte_put a e) (stored a es byte)
@@ -97,33 +97,39 @@ place_is ram addr inside aligned =
     let high : addr + 4 ≤ ram_first + ram = leb-true (addr + 4) (ram_first + ram) tests.1 in
     record { addr_is = omega arith; within = omega arith }
 
--- the bytes of other words stay
-other_byte : (e : Entry) (place i j : ℕ) → e.addr ≡ ram_first + 4 * place → e.len ≡ 4 → (i ≡ place → ⊥) → j < 4 → touches (ram_first + 4 * i + j) e ≡ false
-other_byte e place i j at len differs low = grind (arith, nat_tests)
+-- a byte of a word of RAM
+pub word_byte : (setup : Setup) (es : List Entry) (words : List ℕ) (place i : ℕ) → HasBytes setup → HoldsWords setup es words → 4 * length words ≡ setup.config.ram
+    → place < length words → i < 4 → byte_of (get_or words place 0) 4 i ≡ byte_after setup es (ram_first + 4 * place + i)
+word_byte setup es words place i bytes holds size within low =
+    ap (λ (v : ℕ). byte_of v 4 i) (holds.each place within)
+    ∙ byte_of_number (byte_after setup es) (ram_first + 4 * place) 4 (λ j lt. byte_small setup es (ram_first + 4 * place + j) bytes (omega arith) (omega (arith, size))) i low
 
-own_byte : (e : Entry) (place j : ℕ) → e.addr ≡ ram_first + 4 * place → e.len ≡ 4 → j < 4 → touches (ram_first + 4 * place + j) e ≡ true
-own_byte e place j at len low = grind (arith, nat_tests)
+-- a word of RAM is a word
+pub word_small : (setup : Setup) (es : List Entry) (words : List ℕ) (place : ℕ) → HasBytes setup → HoldsWords setup es words → 4 * length words ≡ setup.config.ram
+    → place < length words → get_or words place 0 < 2 ^ 32
+word_small setup es words place bytes holds size within =
+    subst (λ (v : ℕ). v < 2 ^ 32) (sym (holds.each place within))
+    (number_small (byte_after setup es) (ram_first + 4 * place) 4 (λ j lt. byte_small setup es (ram_first + 4 * place + j) bytes (omega arith) (omega (arith, size))))
 
--- the words after the store of a word
-pub words_after_store : (setup : Setup) (es : List Entry) (e : Entry) (words : List ℕ) (place : ℕ) → entry_enters e ≡ true → e.addr ≡ ram_first + 4 * place → e.len ≡ 4 → e.put < 2 ^ 32
-    → HoldsWords setup es words → HoldsWords setup (es ++ e ∷ []) (set words place e.put)
-words_after_store setup es e words place is at len small h = record {
-  each = λ i within.
-      let inside : i < length words = omega (arith, length-set words place e.put) in
-      elim (cases_eq i place) [
-        | inl here ↦
-            ap (λ (k : ℕ). get_or (set words k e.put) i 0) (sym here) ∙ get_or-set_same words i e.put 0 inside
-            ∙ sym (number_of_word (byte_after setup (es ++ e ∷ [])) (ram_first + 4 * i) e.put small (λ j low.
-            let touched : touches (ram_first + 4 * i + j) e ≡ true = ap (λ (k : ℕ). touches (ram_first + 4 * k + j) e) here ∙ own_byte e place j at len low in
-            let offset : ram_first + 4 * i + j - e.addr ≡ j = omega arith in
-            byte_after_store setup es e (ram_first + 4 * i + j) is
-            ∙ ap (λ (b : Bool). cond b (byte_put (ram_first + 4 * i + j) e) (byte_after setup es (ram_first + 4 * i + j))) touched
-            ∙ ap (λ (n : ℕ). byte_of e.put n (ram_first + 4 * i + j - e.addr)) len
-            ∙ ap (λ (n : ℕ). byte_of e.put 4 n) offset))
-        | inr there ↦
-            get_or-set_other words place i e.put 0 there ∙ h.each i inside
-            ∙ number_at-same (byte_after setup es) (byte_after setup (es ++ e ∷ [])) (ram_first + 4 * i) (ram_first + 4 * i) 4 (λ j low.
-            sym (byte_after_store setup es e (ram_first + 4 * i + j) is
-            ∙ ap (λ (b : Bool). cond b (byte_put (ram_first + 4 * i + j) e) (byte_after setup es (ram_first + 4 * i + j))) (other_byte e place i j at len there low)))
-      ];
-}
+-- what an operation that stores leaves of one word: it touches none of its bytes, or puts those that it touches
+abbrev pub IsPut : Entry → ℕ → ℕ → ℕ → Type 0
+IsPut e first old new = ((new ≡ old) × ((j : ℕ) → j < 4 → touches (first + j) e ≡ false))
+    ⊎ ((new < 2 ^ 32) × ((j : ℕ) → j < 4 → byte_of new 4 j ≡ cond (touches (first + j) e) (byte_put (first + j) e) (byte_of old 4 j)))
+
+-- the words after an operation that stores
+pub words_put : (setup : Setup) (es : List Entry) (e : Entry) (words words' : List ℕ) → HasBytes setup → entry_enters e ≡ true → HoldsWords setup es words → 4 * length words ≡ setup.config.ram
+    → length words' ≡ length words → ((i : ℕ) → i < length words → IsPut e (ram_first + 4 * i) (get_or words i 0) (get_or words' i 0)) → HoldsWords setup (es ++ e ∷ []) words'
+words_put setup es e words words' bytes is h size same puts = record { each = λ i within. at i (omega (arith, within, same)) (puts i (omega (arith, within, same))) }
+  where
+    at : (i : ℕ) → i < length words → IsPut e (ram_first + 4 * i) (get_or words i 0) (get_or words' i 0)
+        → get_or words' i 0 ≡ number_at (byte_after setup (es ++ e ∷ [])) (ram_first + 4 * i) 4
+    at i within (inl kept) =
+        kept.0 ∙ h.each i within
+        ∙ number_at-same (byte_after setup es) (byte_after setup (es ++ e ∷ [])) (ram_first + 4 * i) (ram_first + 4 * i) 4 (λ j low.
+        sym (byte_after_store setup es e (ram_first + 4 * i + j) is
+        ∙ ap (λ (b : Bool). cond b (byte_put (ram_first + 4 * i + j) e) (byte_after setup es (ram_first + 4 * i + j))) (kept.1 j low)))
+    at i within (inr put) =
+        sym (number_of_word (byte_after setup (es ++ e ∷ [])) (ram_first + 4 * i) (get_or words' i 0) put.0 (λ j low.
+        byte_after_store setup es e (ram_first + 4 * i + j) is
+        ∙ ap (λ (byte : ℕ). cond (touches (ram_first + 4 * i + j) e) (byte_put (ram_first + 4 * i + j) e) byte) (sym (word_byte setup es words i j bytes h size within low))
+        ∙ sym (put.1 j low)))

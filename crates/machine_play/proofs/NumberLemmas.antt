@@ -1,5 +1,5 @@
 -- Bytes of big-endian numbers.
-use Rattle.std.proofs.Common.{◌≡◌, ℕ, zero, suc, ◌+◌, ◌-◌, ◌*◌, ◌/◌, ◌%◌, ◌^◌, ◌<◌, ◌≤◌, refl, ap, ap₂, sym, ◌∙◌, arith, inl, inr, add-one, lit<}
+use Rattle.std.proofs.Common.{◌≡◌, ℕ, zero, suc, ◌+◌, ◌-◌, ◌*◌, ◌/◌, ◌%◌, ◌^◌, ◌<◌, ◌≤◌, refl, ap, ap₂, sym, subst, ◌∙◌, arith, inl, inr, add-one, lit<}
 use Rattle.std.proofs.Math.Nat.{pow-suc, pow-succ', div-div-eq-div-mul}
 use Rattle.std.proofs.lemmas.Bool.{cases_eq}
 use Rattle.std.proofs.Math.Pow.{pow_mono}
@@ -57,3 +57,9 @@ byte_of_number f a (suc n) small i within = elim (cases_eq i n) [
 pub number_of_word : (f : ℕ → ℕ) (a value : ℕ) → value < 2 ^ 32 → ((i : ℕ) → i < 4 → f (a + i) ≡ byte_of value 4 i) → number_at f a 4 ≡ value
 unfolding number_at
 number_of_word f a value small bytes = rw (bytes 0 (lit< tt), bytes 1 (lit< tt), bytes 2 (lit< tt), bytes 3 (lit< tt)) (omega arith)
+
+-- a number of so many bytes
+pub number_small : (f : ℕ → ℕ) (a len : ℕ) → ((j : ℕ) → j < len → f (a + j) < 256) → number_at f a len < 2 ^ (8 * len)
+unfolding number_at
+number_small f a zero small = omega arith
+number_small f a (suc n) small = subst (λ (m : ℕ). number_at f a n * 256 + f (a + n) < 2 ^ (8 * m)) (omega arith) (grown n (number_at f a n) (f (a + n)) (number_small f a n (λ j lt. small j (omega arith))) (small n (omega arith)))

@@ -15,7 +15,7 @@ use Rattle.lf_model.specs.declared.bus.OpKind.{OpKind}
 use Rattle.lf_model.specs.declared.bus.OpKind.TheVariants.{Load, Store, Atomic, Lost}
 use Rattle.lf_model.specs.declared.bus.Entry.{Entry}
 use Rattle.lf_model.specs.declared.trace.Op.{Op}
-use Rattle.lf_model.proofs.EachLemmas.{each_append, each_first, each_weaker, each_unmap, filter_same, filter_none, filter_map_same}
+use Rattle.lf_model.proofs.EachLemmas.{each_append, each_second, each_weaker, each_unmap, filter_same, filter_none, filter_map_same}
 use Rattle.lf_model.proofs.SplitLemmas.{nowhere}
 use Rattle.machine_play.specs.Memory.{NumberedFrom, entry_enters, ReadsEach, IsProgramOrder, entry_answers}
 
@@ -117,10 +117,39 @@ reads_at initial xs r ys h reader a touched =
     let read = h (length xs) a r within (ap entry_reads here ∙ reader) (ap (touches a) here ∙ touched) in
     ap (byte_got a) (sym here) ∙ read ∙ ap (λ (es : List Entry). stored a (filter entry_enters es) (initial a)) (take-append_seam xs (r ∷ ys))
 
+first_op : (x y : Op) (xs ys : List Op) → x ∷ xs ≡ y ∷ ys → x ≡ y
+first_op x y xs ys h = cc
+
+later_ops : (x y : Op) (xs ys : List Op) → x ∷ xs ≡ y ∷ ys → xs ≡ ys
+later_ops x y xs ys h = cc
+
+lost_or_kept : (b : Bool) → b ≡ true → b ≡ false → ⊥
+lost_or_kept b is other = cc
+
+-- before an operation that is not lost stands none that is
+kept_before : (kept lost earlier later : List Op) (r : Op) → kept ++ lost ≡ earlier ++ (r ∷ later) → Each (λ o. is_lost o ≡ false) kept → Each (λ o. is_lost o ≡ true) lost → is_lost r ≡ false
+    → Each (λ o. is_lost o ≡ false) earlier
+kept_before kept lost [] later r e none all here = tt
+kept_before [] lost (o ∷ earlier) later r e none all here =
+    let behind : Each (λ x. is_lost x ≡ true) (r ∷ later) =
+    each_second (λ x. is_lost x ≡ true) (o ∷ earlier) (r ∷ later) (subst (λ (os : List Op). Each (λ x. is_lost x ≡ true) os) e all) in
+    absurd (lost_or_kept (is_lost r) behind.0 here)
+kept_before (k ∷ kept) lost (o ∷ earlier) later r e none all here = (
+  subst (λ (x : Op). is_lost x ≡ false) (first_op k o (kept ++ lost) (earlier ++ (r ∷ later)) e) none.0,
+  kept_before kept lost earlier later r (later_ops k o (kept ++ lost) (earlier ++ (r ∷ later)) e) none.1 all here,
+)
+
+reader_kept : (kind : OpKind) → kind_reads kind ≡ true → kind_is_lost kind ≡ false
+reader_kept Load h = refl
+reader_kept Store h = refl
+reader_kept Atomic h = refl
+reader_kept Lost h = absurd cc
+
 pub value : (initial : ℕ → ℕ) (order : List Op) → IsProgramOrder initial order → FailsNowhereIn (ValueAt initial) order
 value initial order h = nowhere (ValueAt initial) order (λ earlier later r e reader.
     let s = at_split order earlier later r h.numbers e in
-    let kept : Each (λ o. is_lost o ≡ false) earlier = each_first (λ o. is_lost o ≡ false) earlier (r ∷ later) (subst (λ (os : List Op). Each (λ o. is_lost o ≡ false) os) e h.none_lost) in
+    let kept : Each (λ o. is_lost o ≡ false) earlier = 
+    kept_before h.kept h.lost earlier later r (sym h.split.split ∙ e) h.split.none_lost h.split.all_lost (reader_kept r.kind reader) in
     let parts : ReadsEach initial (map made earlier ++ (made r ∷ map made later)) =
     subst (λ (es : List Entry). ReadsEach initial es) (ap (map made) e ∙ map-append made earlier (r ∷ later)) h.values in
     subst (λ (es : List Entry). Reads initial (made r) es) (sym (candidates_before earlier r later kept s.after))

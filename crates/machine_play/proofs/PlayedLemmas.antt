@@ -1,5 +1,5 @@
 -- A machine that has ended leaves a trace as promised.
-use Rattle.std.proofs.Common.{◌≡◌, ℕ, zero, suc, ◌+◌, ◌-◌, ◌<◌, ◌≤◌, ◌==◌, Bool, true, false, List, [], ◌∷◌, map, length, take, Option, Some, None, refl, ap, sym, subst, ◌∙◌, arith, cond, ◌&&◌, ◌||◌, lit<, length-append, ap₂, inl, inr, option_map, ◌≢◌}
+use Rattle.std.proofs.Common.{◌≡◌, ℕ, zero, suc, ◌+◌, ◌-◌, ◌*◌, ◌<◌, ◌≤◌, ◌==◌, Bool, true, false, List, [], ◌∷◌, ◌++◌, map, filter, length, drop, take, Vec, Option, Some, None, refl, ap, sym, subst, ◌∙◌, arith, cond, ◌&&◌, ◌||◌, lit<, length-append, ap₂, inl, inr, option_map, ◌≢◌}
 use Rattle.std.specs.Prelude.{find, option_and_then}
 use Rattle.std.proofs.lemmas.List.Sums.{sum_by-cons}
 use Rattle.std.proofs.lemmas.List.{drop_all, length-map}
@@ -7,12 +7,13 @@ use Rattle.std.proofs.lemmas.Bool.{cases_eq, ne_eqb}
 use Rattle.std.proofs.lemmas.Option.{slice_get-map}
 use Rattle.std.specs.List.{AllByRecursion as Each, range_with_len, slice_get, count_by, list_any}
 use Rattle.std.specs.Option.{IfSome, IsSome, IsSomeAnd}
+use Rattle.std.specs.declared.alloc.Global.{Global}
 use Rattle.lf_model.specs.Start.{initial_byte}
 use Rattle.lf_model.specs.State.{State, register}
-use Rattle.lf_model.specs.Effect.{Access}
+use Rattle.lf_model.specs.Effect.{Access, Effect}
 use Rattle.lf_model.specs.Flips.{Moment, is_bad_word, syndrome}
 use Rattle.lf_model.specs.WordHistory.{begun, history}
-use Rattle.lf_model.specs.Operation.{made, is_lost, of_core}
+use Rattle.lf_model.specs.Operation.{made, is_lost, of_core, enters}
 use Rattle.lf_model.specs.Run.{Run, run, effect_at_pc}
 use Rattle.lf_model.specs.Step.{Seen, state_of, run_seen}
 use Rattle.lf_model.specs.Places.{FailsNowhere, FailsNowhereIn}
@@ -20,9 +21,11 @@ use Rattle.lf_model.specs.Once.{OnceAtCore, OnceAtOrder, OnceAtTransfer, HasMast
 use Rattle.lf_model.specs.Execution.{IsThread, ThreadAt, run_of_core, program_order, answers_of}
 use Rattle.lf_model.specs.Results.{ResultAt, ResultAtFinal, Shows, ShowsRegisters, idle_steps, is_lost_by, is_in_steps}
 use Rattle.lf_model.specs.StopCause.{transfers_of, history_met, access_after, access_of, lowest_bad, wanted_words, serves, IsDataError, IsLastOf, HasCause, StopCauseAt}
-use Rattle.lf_model.specs.TransferLines.{makes_entry, core_stops_at}
+use Rattle.lf_model.specs.TransferLines.{makes_entry, stops_at, core_stops_at}
 use Rattle.lf_model.specs.FlipFates.{TellsFates}
 use Rattle.lf_model.specs.declared.bus.Entry.{Entry}
+use Rattle.lf_model.specs.declared.bus.OpKind.{OpKind}
+use Rattle.lf_model.specs.declared.bus.OpKind.TheVariants as ops
 use Rattle.lf_model.specs.declared.bus.Transfer.{Transfer}
 use Rattle.lf_model.specs.declared.bus.TurnKind.{TurnKind}
 use Rattle.lf_model.specs.declared.bus.TurnKind.TheVariants as turns
@@ -40,10 +43,11 @@ use Rattle.machine_play.specs.declared.machine.Machine.{Machine}
 use Rattle.machine_play.specs.declared.machine.Ending.{Ending}
 use Rattle.machine_play.specs.Playable.{IsPlayable}
 use Rattle.machine_play.specs.Memory.{NumberedFrom, ReadsEach, IsProgramOrder, entry_answers, RunIs, halted}
-use Rattle.machine_play.specs.Seen.{seen_of}
+use Rattle.machine_play.specs.Seen.{seen_of, run_of}
 use Rattle.machine_play.specs.Result.{told_register, told_registers, result_of, trace_of}
-use Rattle.machine_play.specs.Transfers.{IsTransfer, IsFillOrStore, is_load_turn, Service, service_by, IsLeft, IsLineFill}
-use Rattle.machine_play.specs.Machine.{met_in, AreTransfers, AreTurns}
+use Rattle.machine_play.specs.Service.{is_load_turn, Service, service_by, service_for, IsLeft, IsLineFill}
+use Rattle.machine_play.specs.Transfers.{IsTransfer, IsFill, IsWordStore, IsFillOrStore, HasSteps, TellsTransfers}
+use Rattle.machine_play.specs.Machine.{met_in, AreTransfers, IsBusOf, AreTurns}
 use Rattle.machine_play.specs.Ending.{IsStopped, RunEnds, Ended}
 use Rattle.machine_play.specs.Played.{IsPlayed}
 use Rattle.machine_play.proofs.OneCore.{load_op, store_store, once_order, once_cores, value, program_order_is, answers_are, and_false}

@@ -1,5 +1,5 @@
 -- The run of a core, one instruction further.
-use Rattle.std.proofs.Common.{◌≡◌, ℕ, zero, suc, ◌+◌, ◌≤◌, ◌++◌, Bool, true, false, List, [], ◌∷◌, map, filter, length, Option, Some, None, cond, refl, ap, sym, subst, ◌∙◌, arith, option_map, is_some, get_or, add-one}
+use Rattle.std.proofs.Common.{◌≡◌, ℕ, zero, suc, ◌+◌, ◌≤◌, ◌++◌, Bool, true, false, List, [], ◌∷◌, map, filter, length, Option, Some, None, cond, refl, ap, sym, subst, ◌∙◌, arith, is_some, get_or, add-one}
 use Rattle.std.proofs.Math.Seq.{get_or-append_seam}
 use Rattle.std.proofs.lemmas.List.{get_or_append_left, length-map, map-append}
 use Rattle.std.proofs.lemmas.List.Elements.{filter-append}
@@ -38,21 +38,18 @@ reads_less core got (Some x) es = omega (arith, reads_push es (operation core (l
 record Onward (setup : Setup) (core : ℕ) (answers : List ℕ) (q r : Run) : Type 0 where
   pub e : Effect
   pub goes_on : is_some q.state.halt ≡ false
-  pub its : effect_at_pc setup core q.state ≡ Some e
+  pub its : effect_at_pc setup core q.state ≡ e
   pub next : answered core answers q e ≡ r
 
 onward_parts : (setup : Setup) (core : ℕ) (answers : List ℕ) (q r : Run) → onward setup core answers q ≡ Some r → Onward setup core answers q r
 onward_parts setup core answers q r is = by_halt (is_some q.state.halt) refl is
   where
-    by_effect : (o : Option Effect) → is_some q.state.halt ≡ false → effect_at_pc setup core q.state ≡ o → option_map (answered core answers q) o ≡ Some r → Onward setup core answers q r
-    by_effect None goes none here = absurd cc
-    by_effect (Some e) goes some here = record { e = e; goes_on = goes; its = some; next = same_Some (answered core answers q e) r here }
-
-    by_halt : (b : Bool) → is_some q.state.halt ≡ b → cond b None (option_map (answered core answers q) (effect_at_pc setup core q.state)) ≡ Some r → Onward setup core answers q r
+    by_halt : (b : Bool) → is_some q.state.halt ≡ b → cond b None (Some (answered core answers q (effect_at_pc setup core q.state))) ≡ Some r → Onward setup core answers q r
     by_halt true halted here = absurd cc
-    by_halt false goes here = by_effect (effect_at_pc setup core q.state) goes refl here
+    by_halt false goes here =
+        record { e = effect_at_pc setup core q.state; goes_on = goes; its = refl; next = same_Some (answered core answers q (effect_at_pc setup core q.state)) r here }
 
-onward_from : (setup : Setup) (core : ℕ) (answers : List ℕ) (q : Run) (e : Effect) → is_some q.state.halt ≡ false → effect_at_pc setup core q.state ≡ Some e
+onward_from : (setup : Setup) (core : ℕ) (answers : List ℕ) (q : Run) (e : Effect) → is_some q.state.halt ≡ false → effect_at_pc setup core q.state ≡ e
     → onward setup core answers q ≡ Some (answered core answers q e)
 onward_from setup core answers q e goes its = rw (goes, its) refl
 
@@ -98,7 +95,7 @@ IsAnswer None got = got ≡ 0
 IsAnswer (Some x) got = kind_reads x.kind ≡ false → got ≡ 0
 
 pub run_further : (setup : Setup) (core n : ℕ) (r : Run) (e : Effect) (got : ℕ) → run setup core (entry_answers r.ops) n ≡ Some r → is_some r.state.halt ≡ false
-    → effect_at_pc setup core r.state ≡ Some e → IsAnswer e.access got
+    → effect_at_pc setup core r.state ≡ e → IsAnswer e.access got
     → run setup core (entry_answers (performed core got e r).ops) (n + 1) ≡ Some (performed core got e r)
 run_further setup core n r e got before goes its answer = by_access e.access refl answer
   where

@@ -1,26 +1,31 @@
 -- The machine at reset.
-use Rattle.std.proofs.Common.{◌≡◌, ℕ, ◌+◌, ◌*◌, ◌<◌, ◌≤◌, true, false, List, Option, [], map, length, vec_len, None, Some, refl, ap, sym, subst, ◌∙◌, arith, replicate, slice_set, slice_index, lit<}
+use Rattle.std.proofs.Common.{◌≡◌, ℕ, ◌+◌, ◌-◌, ◌*◌, ◌/◌, ◌%◌, ◌<◌, ◌≤◌, true, false, List, Option, [], map, length, vec_len, Vec, None, Some, refl, ap, sym, subst, ◌∙◌, arith, replicate, slice_set, slice_index, lit<}
 use Rattle.std.specs.List.{AllByRecursion as Each}
 use Rattle.std.specs.Vec.{vec_capacity}
+use Rattle.std.specs.declared.alloc.Global.{Global}
 use Rattle.std.proofs.lemmas.Bool.Decides.{nat_tests}
 use Rattle.lf_model.specs.Start.{ram_first, is_in_ram, initial_byte, number_at}
 use Rattle.lf_model.specs.Operation.{made, is_lost}
+use Rattle.lf_model.specs.Effect.{Site}
 use Rattle.lf_model.specs.Run.{run, site_of}
 use Rattle.lf_model.specs.State.{cell, reset, reset_control}
 use Rattle.lf_model.specs.declared.bus.Entry.{Entry}
 use Rattle.lf_model.specs.declared.bus.Transfer.{Transfer}
+use Rattle.lf_model.specs.declared.control.Arch.{Arch}
 use Rattle.lf_model.specs.declared.control.Ctl.{Ctl}
 use Rattle.lf_model.specs.declared.setup.Setup.{Setup}
 use Rattle.lf_model.specs.declared.trace.Op.{Op}
-use Rattle.ahb_bus.specs.BusState.{BusState, StartsWith}
+use Rattle.ahb_bus.specs.BusState.{BusState, most_transfers, StartsWith, word_of}
+use Rattle.machine_play.specs.declared.parts.Parts.{Parts}
 use Rattle.machine_play.specs.declared.machine.Machine.{Machine}
 use Rattle.ft_memory.specs.Memory.{place_of}
 use Rattle.machine_play.specs.declared.hand.Hand.{Hand}
 use Rattle.machine_play.specs.Playable.{IsPlayable}
-use Rattle.machine_play.specs.Memory.{NumberedFrom, ReadsEach, entry_answers, byte_after}
-use Rattle.machine_play.specs.Seen.{run_of, room_of}
-use Rattle.machine_play.specs.Core.{HandFits}
-use Rattle.machine_play.specs.Machine.{AreTransfers, IsBusOf, in_hand, AreTurns, Going}
+use Rattle.machine_play.specs.Memory.{NumberedFrom, ReadsEach, entry_answers, HoldsWords, byte_after}
+use Rattle.machine_play.specs.Seen.{seen_of, run_of, room_of}
+use Rattle.machine_play.specs.Core.{IsCore, HandFits}
+use Rattle.machine_play.specs.Service.{service_by, service_for}
+use Rattle.machine_play.specs.Machine.{AreTransfers, IsBusOf, in_hand, AreTurns, HasRoom, Going}
 
 start_run : (setup : Setup) (cells out : List ℕ) (ops : List Entry) (ctl : Ctl) (wim y : ℕ) → cells ≡ slice_set (replicate 136 0) (cell 0 8) 0 → out ≡ [] → ops ≡ []
     → ctl ≡ reset_control setup.image.entry → wim ≡ 2 → y ≡ 0

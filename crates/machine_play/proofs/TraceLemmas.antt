@@ -16,7 +16,8 @@ use Rattle.lf_model.specs.declared.bus.TurnKind.TheVariants.{Load, Store}
 use Rattle.lf_model.specs.declared.trace.CoreResult.{CoreResult}
 use Rattle.lf_model.specs.declared.trace.Op.{Op}
 use Rattle.ahb_bus.specs.BusState.{without_length}
-use Rattle.machine_play.specs.Transfers.{Service, IsLineFill, service_by, service_of, service_for, is_load_turn, HasAscendingSteps}
+use Rattle.machine_play.specs.Service.{Service, IsLineFill, service_by, service_of, service_for, is_load_turn}
+use Rattle.machine_play.specs.Transfers.{HasAscendingSteps}
 
 -- a transfer with its length put back
 same_length : (t : Transfer) (n : ℕ) → t.len ≡ n → record t { len = n } ≡ t

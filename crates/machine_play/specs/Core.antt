@@ -1,22 +1,24 @@
 -- What one instruction makes of a core without caches, by the line in its hand.
-use Rattle.std.specs.Prelude.{ℕ, ◌≡◌, ◌%◌, ◌++◌, ◌∷◌, [], true, List, Option, Some, None, vec_len}
+use Rattle.std.specs.Prelude.{ℕ, ◌≡◌, ◌<◌, ◌+◌, ◌*◌, ◌%◌, ◌^◌, ◌++◌, ◌∷◌, [], true, List, Option, Some, None, vec_len, IsTrue}
 use Rattle.lf_model.specs.Start.{initial_byte, is_in_ram}
 use Rattle.lf_model.specs.Effect.{Access, Effect}
 use Rattle.lf_model.specs.Run.{Run, site_of, effect_at_pc}
-use Rattle.lf_model.specs.Step.{IsSound}
+use Rattle.lf_model.specs.Step.{IsSound, came_to}
 use Rattle.lf_model.specs.declared.bus.Entry.{Entry}
 use Rattle.lf_model.specs.declared.bus.OpKind.TheVariants as ops
 use Rattle.lf_model.specs.declared.control.Arch.{Arch}
 use Rattle.lf_model.specs.declared.setup.Setup.{Setup}
 use Rattle.lf_model.specs.declared.step.Did.{Did}
-use Rattle.lf_model.specs.declared.step.Did.TheVariants.{Retired, Need, Halt, Unbuilt}
-use Rattle.lf_model.specs.declared.step.Turn.TheVariants.{Load}
+use Rattle.lf_model.specs.declared.step.Did.TheVariants.{Retired, Need, Halt}
+use Rattle.lf_model.specs.declared.step.Turn.TheVariants.{Load, Atomic}
+use Rattle.v8_exec.specs.Accesses.{atomic_access}
+use Rattle.ahb_bus.specs.Storing.{is_store_length, is_atomic_length}
 use Rattle.machine_play.specs.declared.hand.Hand.{Hand}
 use Rattle.machine_play.specs.declared.parts.Parts.{Parts}
-use Rattle.machine_play.specs.Hand.{IsHandOf}
+use Rattle.machine_play.specs.Hand.{parts_with, IsHandOf}
 use Rattle.machine_play.specs.Seen.{seen_of, run_of}
 use Rattle.machine_play.specs.Memory.{NumberedFrom, ReadsEach, RunIs, halted}
-use Rattle.machine_play.specs.Transfers.{line_of}
+use Rattle.machine_play.specs.Service.{line_of}
 
 -- what holds of core 0 at each step: its bounds, its place in the setup, and its operations, whose loads read memory
 pub record IsCore (setup : Setup) (arch : Arch) (parts : Parts) : Type 0 where
@@ -37,11 +39,11 @@ abbrev pub HandFits : Setup → Run → Option Hand → Type 0
 HandFits setup r None = Unit {0}
 HandFits setup r (Some h) = IsHandOf setup r h
 
--- an access to a word of RAM
-pub record IsWordAccess (ram : ℕ) (a : Access) : Type 0 where
-  pub len : a.len ≡ 4
-  pub aligned : a.addr % 4 ≡ 0
-  pub in_ram : is_in_ram ram a.addr 4 ≡ true
+-- 1, 2, 4 or 8 bytes of RAM, at a multiple of their number
+pub record FitsRam (ram addr len : ℕ) : Type 0 where
+  pub size : IsTrue (is_store_length len)
+  pub aligned : addr % len ≡ 0
+  pub in_ram : is_in_ram ram addr len ≡ true
 
 -- an instruction that retires with no operation
 pub record MakesNothing (hand : Option Hand) (old new : List Entry) : Type 0 where
@@ -56,13 +58,11 @@ pub record MakesLoad (setup : Setup) (hand : Option Hand) (old new : List Entry)
   pub kind : e.kind ≡ ops.Load
   pub pushed : new ≡ old ++ e ∷ []
 
--- one that retires with a store of a word
+-- one that retires with a store
 pub record MakesStore (setup : Setup) (hand : Option Hand) (old new : List Entry) (e : Entry) : Type 0 where
   pub empty : hand ≡ None
   pub kind : e.kind ≡ ops.Store
-  pub len : e.len ≡ 4
-  pub aligned : e.addr % 4 ≡ 0
-  pub in_ram : is_in_ram setup.config.ram e.addr 4 ≡ true
+  pub fits : FitsRam setup.config.ram e.addr e.len
   pub pushed : new ≡ old ++ e ∷ []
 
 -- what an instruction that retires makes
@@ -71,15 +71,15 @@ pub data Makes (setup : Setup) (hand : Option Hand) (old new : List Entry) : Typ
   ALoad : (e : Entry) → MakesLoad setup hand old new e → Makes setup hand old new
   AStore : (e : Entry) → MakesStore setup hand old new e → Makes setup hand old new
 
--- the instruction at PC is a load of these bytes, a word of RAM
+-- the instruction at PC is a load of these bytes
 pub record IsLoadAt (setup : Setup) (r : Run) (addr len : ℕ) : Type 0 where
   pub e : Effect
   pub a : Access
-  pub its : effect_at_pc setup 0 r.state ≡ Some e
+  pub its : effect_at_pc setup 0 r.state ≡ e
   pub trap : e.trap ≡ None
   pub access : e.access ≡ Some a
   pub kind : a.kind ≡ ops.Load
-  pub word : IsWordAccess setup.config.ram a
+  pub fits : FitsRam setup.config.ram a.addr a.len
   pub addr_is : addr ≡ a.addr
   pub len_is : len ≡ a.len
 
@@ -89,22 +89,31 @@ pub record Misses (setup : Setup) (hand : Option Hand) (old new : Run) (addr len
   pub same : new ≡ old
   pub asked : IsLoadAt setup new addr len
 
+-- the instruction at PC is an atomic on these bytes, which puts this number and writes what it reads to this register
+pub record IsAtomicAt (setup : Setup) (r : Run) (addr len put rd : ℕ) : Type 0 where
+  pub e : Effect
+  pub its : effect_at_pc setup 0 r.state ≡ e
+  pub access : e.access ≡ Some (atomic_access addr len put rd)
+  pub answer : came_to (parts_with None) r.state e ≡ Need (Atomic addr len put rd)
+  pub size : IsTrue (is_atomic_length len)
+  pub fits : FitsRam setup.config.ram addr len
+
+-- an atomic needs its turn, and all is as before
+pub record NeedsAtomic (setup : Setup) (hand : Option Hand) (old new : Run) (addr len put rd : ℕ) : Type 0 where
+  pub empty : hand ≡ None
+  pub same : new ≡ old
+  pub asked : IsAtomicAt setup new addr len put rd
+
 -- the core halts, in the state as it was
 pub record Halts (setup : Setup) (hand : Option Hand) (old new : Run) (n tt_ : ℕ) : Type 0 where
   pub empty : hand ≡ None
   pub same : new ≡ old
   pub run : RunIs setup n (halted tt_ new)
 
--- the instruction is not built
-pub record IsUnbuilt (setup : Setup) (hand : Option Hand) (old new : Run) : Type 0 where
-  pub empty : hand ≡ None
-  pub same : new ≡ old
-  pub none : effect_at_pc setup 0 new.state ≡ None
-
 -- what one instruction comes to, of a core whose run was old and is now new, after n instructions; no other answers come
 abbrev pub Comes : Setup → Option Hand → Run → Did → ℕ → Run → Type 0
 Comes setup hand old Retired n new = RunIs setup n new × Makes setup hand old.ops new.ops
 Comes setup hand old (Halt tt_) n new = Halts setup hand old new n tt_
 Comes setup hand old (Need (Load addr len why)) n new = Misses setup hand old new addr len
-Comes setup hand old Unbuilt n new = IsUnbuilt setup hand old new
+Comes setup hand old (Need (Atomic addr len put rd)) n new = NeedsAtomic setup hand old new addr len put rd
 Comes setup hand old _ n new = ⊥

@@ -12,7 +12,7 @@ use Rattle.lf_model.specs.declared.step.Look.{Look}
 use Rattle.lf_model.specs.declared.step.Look.TheVariants.{Hit, Miss}
 use Rattle.machine_play.specs.declared.hand.Hand.{Hand}
 use Rattle.machine_play.specs.Memory.{byte_after}
-use Rattle.machine_play.specs.Transfers.{line_of}
+use Rattle.machine_play.specs.Service.{line_of}
 
 -- the line has all these bytes
 abbrev pub has_bytes : Hand → ℕ → ℕ → Bool
@@ -35,7 +35,7 @@ parts_with hand = record { bad = λ c. None; look = look_in hand; full = false; 
 pub record IsHandOf (setup : Setup) (r : Run) (h : Hand) : Type 0 where
   pub e : Effect
   pub a : Access
-  pub its : effect_at_pc setup 0 r.state ≡ Some e
+  pub its : effect_at_pc setup 0 r.state ≡ e
   pub trap : e.trap ≡ None
   pub access : e.access ≡ Some a
   pub kind : a.kind ≡ ops.Load

@@ -1,4 +1,5 @@
 pub mod Playable
+pub mod Service
 pub mod Transfers
 pub mod Played
 pub mod Memory
@@ -6,5 +7,6 @@ pub mod Hand
 pub mod Seen
 pub mod Core
 pub mod Machine
+pub mod Midstep
 pub mod Ending
 pub mod Result

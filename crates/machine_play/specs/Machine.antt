@@ -1,11 +1,12 @@
 -- The machine while it goes on: its core, memory order, bus and hand, and how they belong together.
-use Rattle.std.specs.Prelude.{ℕ, ◌≡◌, ◌≤◌, ◌<◌, ◌+◌, ◌-◌, ◌++◌, ◌∷◌, [], false, List, Option, Some, None, map, take, slice_get, IfSome, vec_len}
+use Rattle.std.specs.Prelude.{ℕ, ◌≡◌, ◌≤◌, ◌<◌, ◌+◌, ◌-◌, ◌*◌, ◌^◌, ◌++◌, ◌∷◌, [], true, false, List, Option, Some, None, length, map, take, slice_get, IfSome, vec_len}
 use Rattle.std.specs.Vec.{vec_capacity}
 use Rattle.std.specs.List.{AllByRecursion, count_by}
 use Rattle.lf_model.specs.Flips.{Moment}
 use Rattle.lf_model.specs.WordHistory.{begun, history}
 use Rattle.lf_model.specs.Operation.{made, is_lost}
 use Rattle.lf_model.specs.declared.bus.Entry.{Entry}
+use Rattle.lf_model.specs.declared.bus.OpKind.TheVariants.{Lost}
 use Rattle.lf_model.specs.declared.bus.Transfer.{Transfer}
 use Rattle.lf_model.specs.declared.bus.TurnKind.TheVariants.{Load}
 use Rattle.lf_model.specs.declared.flip.Flip.{Flip}
@@ -16,17 +17,26 @@ use Rattle.machine_play.specs.declared.hand.Hand.{Hand}
 use Rattle.machine_play.specs.declared.machine.Machine.{Machine}
 use Rattle.machine_play.specs.Memory.{HoldsWords}
 use Rattle.machine_play.specs.Seen.{run_of, room_of}
-use Rattle.machine_play.specs.Core.{Runs, HandFits, IsLoadAt, Makes}
-use Rattle.machine_play.specs.Transfers.{IsTransfer, Service, service_by, service_for, is_load_turn, HasAscendingSteps}
+use Rattle.machine_play.specs.Core.{Runs, HandFits, IsLoadAt, IsAtomicAt, Makes}
+use Rattle.machine_play.specs.Service.{Service, service_by, service_for, is_load_turn}
+use Rattle.machine_play.specs.Transfers.{IsTransfer, HasAscendingSteps}
 
 -- an operation as the order lists it, made in this step
 abbrev pub op_in : Entry → ℕ → Op
 op_in e step = record { got = e.got; put = e.put; core = e.core; k = e.k; step = step; addr = e.addr; kind = e.kind; len = e.len; way = 0 }
 
+-- a store as the order lists it that was lost in this step
+abbrev pub lost_in : Entry → ℕ → Op
+lost_in e step = record (op_in e step) { kind = Lost }
+
 -- the operations as the order lists them
 pub record IsOrder (ops : List Entry) (order : List Op) : Type 0 where
   pub recorded : map made order ≡ ops
   pub none_lost : AllByRecursion (λ o. is_lost o ≡ false) order
+
+-- the bus in a turn that is begun
+abbrev pub in_turn : BusState → BusState
+in_turn bus = record bus { begun = true }
 
 -- the history of a word as this turn of these transfers met it
 abbrev pub met_in : List Flip → List Transfer → ℕ → ℕ → List Moment
@@ -47,7 +57,7 @@ pub record IsBusOf (setup : Setup) (ops : List Entry) (bus : BusState) : Type 0 
 -- the fill of the line in the hand, for the load that retires in this step
 abbrev pub in_hand : Option Hand → ℕ → List Service
 in_hand None step = []
-in_hand (Some h) step = record { kind = Load; addr = h.line; len = 0; step = step } ∷ []
+in_hand (Some h) step = record { kind = Load; addr = h.line; len = 0; words = 8; step = step } ∷ []
 
 -- the transfers of so many steps, in which n instructions were made, with what is left behind the last operation
 pub record AreTurns (steps n idle : ℕ) (left : List Service) (order : List Op) (transfers : List Transfer) : Type 0 where
@@ -56,9 +66,9 @@ pub record AreTurns (steps n idle : ℕ) (left : List Service) (order : List Op)
   pub below : AllByRecursion (λ t. t.step < steps) transfers
   pub ascending : HasAscendingSteps transfers
 
--- room for what the steps that are left may record
+-- room for what the steps that are left may record: of each, an instruction and the turn of an atomic
 pub record HasRoom (setup : Setup) (steps : ℕ) (m : Machine) : Type 0 where
-  pub parts : setup.config.steps ≤ room_of m.parts + steps
+  pub parts : 2 * setup.config.steps ≤ room_of m.parts + 2 * steps
   pub order : setup.config.steps ≤ vec_capacity m.order - vec_len m.order + steps
   pub bus : setup.config.steps ≤ m.bus.room + steps
 
@@ -70,31 +80,3 @@ pub record Going (setup : Setup) (steps : ℕ) (m : Machine) : Type 0 where
   pub bus : IsBusOf setup m.parts.ops.items m.bus
   pub turns : AreTurns steps m.arch.n 0 (in_hand m.hand steps) m.order.items m.bus.transfers
   pub room : HasRoom setup steps m
-
--- room in the middle of a step, when its instruction is done
-pub record HasRoomYet (setup : Setup) (steps : ℕ) (m : Machine) : Type 0 where
-  pub left : steps < setup.config.steps
-  pub parts : setup.config.steps ≤ room_of m.parts + steps + 1
-  pub order : setup.config.steps ≤ vec_capacity m.order - vec_len m.order + steps
-  pub bus : setup.config.steps ≤ m.bus.room + steps
-
--- the instruction retired, and what it made is not yet in the order and on the bus
-pub record Retiring (setup : Setup) (steps : ℕ) (m : Machine) : Type 0 where
-  pub core : Runs setup m.arch m.parts
-  pub earlier : List Entry
-  pub n : ℕ
-  pub next : m.arch.n ≡ n + 1
-  pub makes : Makes setup m.hand earlier m.parts.ops.items
-  pub order : IsOrder earlier m.order.items
-  pub bus : IsBusOf setup earlier m.bus
-  pub turns : AreTurns steps n 0 (in_hand m.hand steps) m.order.items m.bus.transfers
-  pub room : HasRoomYet setup steps m
-
--- the instruction is a load whose line is not in the hand
-pub record Reading (setup : Setup) (steps addr len : ℕ) (m : Machine) : Type 0 where
-  pub core : Runs setup m.arch m.parts
-  pub asked : IsLoadAt setup (run_of m.arch m.parts) addr len
-  pub order : IsOrder m.parts.ops.items m.order.items
-  pub bus : IsBusOf setup m.parts.ops.items m.bus
-  pub turns : AreTurns steps m.arch.n 0 [] m.order.items m.bus.transfers
-  pub room : HasRoomYet setup steps m

@@ -8,6 +8,7 @@ use Rattle.lf_model.specs.Run.{Run, run}
 use Rattle.lf_model.specs.declared.setup.Setup.{Setup}
 use Rattle.lf_model.specs.declared.bus.Entry.{Entry}
 use Rattle.lf_model.specs.declared.trace.Op.{Op}
+use Rattle.machine_play.specs.Service.{IsSplit}
 
 -- the operations are those of core 0, numbered from n
 abbrev pub NumberedFrom : ℕ → List Entry → Type 0
@@ -26,10 +27,12 @@ ReadsEach initial es = (i a : ℕ) (d : Entry) → i < length es → entry_reads
 abbrev pub PutsFit : List Entry → Type 0
 PutsFit es = All (λ e. e.put < 2 ^ (8 * e.len)) es
 
--- an order that is the program order of one core, with no store lost
+-- an order that is the program order of one core, in which lost stores stand last
 pub record IsProgramOrder (initial : ℕ → ℕ) (order : List Op) : Type 0 where
   pub numbers : NumberedFrom 0 (map made order)
-  pub none_lost : AllByRecursion (λ o. is_lost o ≡ false) order
+  pub kept : List Op
+  pub lost : List Op
+  pub split : IsSplit order kept lost
   pub values : ReadsEach initial (map made order)
 
 abbrev pub got_by : Entry → ℕ

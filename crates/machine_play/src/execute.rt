@@ -1,6 +1,7 @@
 ghost use Rattle.std.specs.Prelude.{◌≡◌, ◌<◌, ◌+◌, ◌^◌};
 ghost use Rattle.lf_model.specs.Run.{site_of, effect_at_pc};
 ghost use Rattle.lf_model.specs.Step.{IsSound, state_of, Does};
+ghost use Rattle.v8_exec.specs.Accesses.{Asks};
 ghost use Rattle.v8_exec.specs.Frame.{Counts};
 ghost use Rattle.machine_play.specs.Hand.{parts_with};
 ghost use Rattle.machine_play.specs.Seen.{seen_of, room_of, run_of};
@@ -23,6 +24,7 @@ fn instruction(program: &Program, arch: &mut Arch, parts: &mut Parts) -> Did
     requires room { 0 < room_of parts.old }
     ensures does { Does 0 (parts_with parts.old.hand) (effect_at_pc program.now.setup.now 0 (state_of arch.old (seen_of parts.old))) result (run_of arch.old parts.old) (run_of arch.new parts.new) }
     ensures counts { Counts arch.old arch.new (seen_of parts.old) (seen_of parts.new) (room_of parts.old) (room_of parts.new) result }
+    ensures asks { Asks (seen_of parts.old).site result }
 {
     match program.fetch(arch.ctl.pc) {
         Some(word) => v8_exec::exec(arch, word, parts),
@@ -40,6 +42,7 @@ pub fn execute(program: &Program, arch: &mut Arch, parts: &mut Parts, hand: Opti
     ensures comes { Comes program.now.setup.now hand (run_of arch.old parts.old) result arch.new.n (run_of arch.new parts.new) }
     ensures core { IsCore program.now.setup.now arch.new parts.new }
     ensures counts { Counts arch.old arch.new (seen_of parts.old) (seen_of parts.new) (room_of parts.old) (room_of parts.new) result }
+    ensures asks { Asks (seen_of parts.old).site result }
 {
     parts.hand = hand;
     instruction(program, arch, parts)

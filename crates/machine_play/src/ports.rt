@@ -1,6 +1,6 @@
-ghost use Rattle.std.specs.Prelude.{◌≡◌, ◌<◌, ◌≤◌, ◌+◌, ◌-◌, ◌^◌, [], vec_len, IfOk, replicate, slice_set};
+ghost use Rattle.std.specs.Prelude.{◌≡◌, ◌<◌, ◌≤◌, ◌+◌, ◌-◌, ◌*◌, ◌^◌, ◌++◌, ◌∷◌, [], vec_len, IfOk, replicate, slice_set};
 ghost use Rattle.lf_model.specs.State.{cell};
-ghost use Rattle.machine_play.specs.Seen.{room_of};
+ghost use Rattle.machine_play.specs.Seen.{seen_of, room_of};
 
 use crate::parts::Parts;
 use crate::program::Program;
@@ -22,7 +22,8 @@ fn reset_cells(alloc: Global) -> Result<Vec<u32>, AllocError>
 }
 
 impl<'a> Parts<'a> {
-    /// The parts of core 0 at reset, with room for what so many steps may record.
+    /// The parts of core 0 at reset, with room for what so many steps may record: of each, an instruction and the turn of an
+    /// atomic.
     pub fn reset(
         alloc: Global,
         program: &'a Program<'a>,
@@ -31,9 +32,9 @@ impl<'a> Parts<'a> {
         ensures program { IfOk result (λ parts. parts.program.now.setup.now ≡ program.entry.now.setup.now) }
         ensures cells { IfOk result (λ parts. parts.cells.items ≡ slice_set (replicate 136 0) (cell 0 8) 0) }
         ensures empty { IfOk result (λ parts. (parts.out.items ≡ []) × (parts.ops.items ≡ []) × (vec_len parts.ops ≡ 0)) }
-        ensures room { IfOk result (λ parts. steps < 2 ^ 32 - 1 → steps ≤ room_of parts) }
+        ensures room { IfOk result (λ parts. 2 * steps < 2 ^ 32 - 1 → 2 * steps ≤ room_of parts) }
     {
-        let room = steps as usize;
+        let room = 2 * steps as usize;
         let cells = reset_cells(alloc)?;
         let out = Vec::with_capacity(alloc, room)?;
         let ops = Vec::with_capacity(alloc, room)?;
@@ -45,6 +46,17 @@ impl<'a> Parts<'a> {
             hand: None,
         })
     }
+
+    /// Records the operation of an atomic, whose turn was made.
+    pub fn note(&mut self, atomic: Entry)
+        requires room { 0 < room_of self.old }
+        requires value { atomic.put < 2 ^ (8 * atomic.len) }
+        ensures seen { seen_of self.new ≡ record (seen_of self.old) { ops = (seen_of self.old).ops ++ atomic ∷ [] } }
+        ensures len { vec_len self.new.ops ≡ vec_len self.old.ops + 1 }
+        ensures room { room_of self.old ≤ room_of self.new + 1 }
+    {
+        record(&mut self.ops, atomic);
+    }
 }
 
 impl<'a> Ports for Parts<'a> {
@@ -54,6 +66,10 @@ impl<'a> Ports for Parts<'a> {
     ghost seen = { seen_of };
 
     ghost parts = { λ p. parts_with p.hand };
+
+    ghost use Rattle.std.specs.Prelude.{⊤};
+
+    ghost caches_empty = { λ p. ⊤ };
 
     ghost room = { room_of };
 

@@ -1,18 +1,22 @@
-ghost use Rattle.std.specs.Prelude.{◌≡◌, ◌<◌, ◌≤◌, ◌+◌, ◌-◌, ◌%◌, ◌^◌, slice_get};
-ghost use Rattle.machine_play.specs.Machine.{op_in, Going, Retiring, Reading};
+ghost use Rattle.std.specs.Prelude.{◌≡◌, ◌<◌, ◌≤◌, ◌+◌, ◌-◌, ◌*◌, ◌/◌, ◌%◌, ◌^◌, ◌==◌, ◌&&◌, Some, None, if◌then◌else◌, slice_get, false, slice_index_or};
+ghost use Rattle.machine_play.specs.Machine.{op_in, lost_in, Going};
+ghost use Rattle.machine_play.specs.Midstep.{Retiring, Storing, Reading, Exchanging, Finishing, number_read};
 ghost use Rattle.machine_play.specs.Ending.{Ended, StepsOn};
 
 use crate::execute::execute;
 use crate::hand::Hand;
 use crate::machine::{Ending, Machine};
 use crate::record::record;
-use crate::turn::{load_turn, store_turn};
-use lf_model::bus::{Entry, OpKind};
+use crate::turn::{BadMet, atomic_turn, load_turn, store_turn};
+use lf_model::bus::{Bad, Entry, OpKind, Pending};
 use lf_model::step::{Did, Turn};
 use lf_model::trace::{CoreEnd, Op, Word2};
 
-/// The trap type of a load that wants a bad word: `data_access_error`.
+/// The trap type of a load or an atomic that wants a bad word: `data_access_error`.
 const DATA_ERROR: u8 = 0x09;
+
+/// The trap type of a part store that meets a bad word: `data_store_error`.
+const STORE_ERROR: u8 = 0x2b;
 
 /// The operation that was made in a step.
 fn operation(entry: &Entry, step: u32) -> Op
@@ -29,6 +33,15 @@ fn operation(entry: &Entry, step: u32) -> Op
         len: entry.len,
         way: 0,
     }
+}
+
+/// The store that was lost in a step.
+fn lost(entry: &Entry, step: u32) -> Op
+    ensures { result ≡ lost_in entry.now step }
+{
+    let mut store = operation(entry, step);
+    store.kind = OpKind::Lost;
+    store
 }
 
 /// The operation behind so many, if there is one.
@@ -50,51 +63,155 @@ fn ended(end: CoreEnd, step: u32, named: Option<Word2>) -> Option<Ending>
     })
 }
 
-/// Puts what an instruction made into the order. A store makes its turn on the bus, and a load empties the hand.
-fn retire(m: &mut Machine, step: u32)
-    requires retiring { Retiring m.old.program.now.setup.now step m.old }
-    ensures program { m.new.program.now.setup.now ≡ m.old.program.now.setup.now }
-    ensures going { Going m.old.program.now.setup.now (step + 1) m.new }
+/// The stop of an error trap of this type at a bad word, which it names.
+fn stopped(tt: u8, met: BadMet, step: u32) -> Option<Ending>
+    requires { step + 1 < 2 ^ 32 }
+    ensures { result ≡ Some (record { end = CoreEnd.Stop tt met.turn met.bad.syn; steps = step + 1; named = Some (record { addr = met.bad.addr; value = Some met.turn }) }) }
 {
-    let made = m.order.len();
-    let Some(entry) = newest(&m.parts.ops, made) else {
-        return;
+    let end = CoreEnd::Stop {
+        tt,
+        place: met.turn,
+        syn: met.bad.syn,
     };
-    record(&mut m.order, operation(&entry, step));
-    match entry.kind {
-        OpKind::Store => store_turn(&mut m.bus, &entry, step),
-        _ => m.hand = None,
+    let named = Word2 {
+        addr: met.bad.addr,
+        value: Some(met.turn),
+    };
+    ended(end, step, Some(named))
+}
+
+/// Makes the turn of a store, and puts the store into the order. The core stops where it is lost.
+fn store(m: &mut Machine, entry: &Entry, step: u32) -> Option<Ending>
+    requires storing { Storing m.old.program.now.setup.now step entry.now m.old }
+    requires limit { m.old.program.now.setup.now.config.steps < 2 ^ 32 }
+    ensures program { m.new.program.now.setup.now ≡ m.old.program.now.setup.now }
+    ensures on { StepsOn m.old.program.now.setup.now step result m.new }
+{
+    match store_turn(&mut m.bus, entry, step) {
+        Ok(()) => {
+            record(&mut m.order, operation(entry, step));
+            None
+        }
+        Err(met) => {
+            record(&mut m.order, lost(entry, step));
+            stopped(STORE_ERROR, met, step)
+        }
     }
 }
 
-/// Makes the turn of a load at an address. The core stops where the word that it wants is bad; else the line is in its
-/// hand.
-fn read_line(m: &mut Machine, addr: u32, step: u32) -> Option<Ending>
-    requires reading { Reading m.old.program.now.setup.now step addr 4 m.old }
+/// Puts what an instruction made into the order. A store makes its turn on the bus, and a load empties the hand.
+fn retire(m: &mut Machine, step: u32) -> Option<Ending>
+    requires retiring { Retiring m.old.program.now.setup.now step m.old }
+    requires limit { m.old.program.now.setup.now.config.steps < 2 ^ 32 }
+    ensures program { m.new.program.now.setup.now ≡ m.old.program.now.setup.now }
+    ensures on { StepsOn m.old.program.now.setup.now step result m.new }
+{
+    let made = m.order.len();
+    let Some(entry) = newest(&m.parts.ops, made) else {
+        return None;
+    };
+    match entry.kind {
+        OpKind::Store => store(m, &entry, step),
+        _ => {
+            record(&mut m.order, operation(&entry, step));
+            m.hand = None;
+            None
+        }
+    }
+}
+
+/// The lowest bad word, by its place in a line, of the one or two words that `len` bytes from place `first` on want.
+fn lowest_bad(bad: &[bool; 8], first: usize, len: u8) -> Option<usize>
+    requires within { first < 8 }
+    requires double { len ≡ 8 → first + 1 < 8 }
+    ensures { result ≡ (if slice_index_or bad.now first false then Some first
+        else if len == 8 && slice_index_or bad.now (first + 1) false then Some (first + 1) else None) }
+{
+    if bad[first] {
+        return Some(first);
+    }
+    if len == 8 && bad[first + 1] {
+        return Some(first + 1);
+    }
+    None
+}
+
+/// Makes the turn of a load of `len` bytes. The core stops at the lowest word that it wants and that is bad; else the line
+/// is in its hand.
+fn read_line(m: &mut Machine, addr: u32, len: u8, step: u32) -> Option<Ending>
+    requires reading { Reading m.old.program.now.setup.now step addr len m.old }
     requires limit { m.old.program.now.setup.now.config.steps < 2 ^ 32 }
     ensures program { m.new.program.now.setup.now ≡ m.old.program.now.setup.now }
     ensures on { StepsOn m.old.program.now.setup.now step result m.new }
 {
     let line = addr - addr % 32;
     let read = load_turn(&mut m.bus, line, step);
-    let place = ((addr - line) / 4) as usize;
-    if read.line.bad[place] {
-        let end = CoreEnd::Stop {
-            tt: DATA_ERROR,
-            place: read.turn,
+    let first = ((addr - line) / 4) as usize;
+    if let Some(place) = lowest_bad(&read.line.bad, first, len) {
+        let bad = Bad {
+            addr: line + 4 * place as u32,
             syn: read.line.syn[place],
         };
-        let named = Word2 {
-            addr: addr - addr % 4,
-            value: Some(read.turn),
+        let met = BadMet {
+            turn: read.turn,
+            bad,
         };
-        return ended(end, step, Some(named));
+        return stopped(DATA_ERROR, met, step);
     }
     m.hand = Some(Hand {
         line,
         words: read.line.words,
     });
     None
+}
+
+/// The number that an atomic of this length reads of its word: the byte at its address, or the word.
+fn number_read(word: u32, addr: u32, len: u8) -> u32
+    ensures { result ≡ number_read word addr len }
+{
+    if len == 4 {
+        word
+    } else {
+        (word >> (8 * (3 - addr % 4))) % 256
+    }
+}
+
+/// Finishes an atomic that read this word at its turn, and puts it into the order.
+fn finish(m: &mut Machine, asked: &Pending, rd: u8, word: u32)
+    requires finishing { Finishing m.old.program.now.setup.now asked.now rd word m.old }
+    requires limit { m.old.program.now.setup.now.config.steps < 2 ^ 32 - 1 }
+    ensures program { m.new.program.now.setup.now ≡ m.old.program.now.setup.now }
+    ensures going { Going m.old.program.now.setup.now (asked.now.step + 1) m.new }
+{
+    let got = number_read(word, asked.addr, asked.len);
+    let made = Entry {
+        got: u64::from(got),
+        put: asked.value,
+        core: 0,
+        k: asked.k,
+        addr: asked.addr,
+        kind: OpKind::Atomic,
+        len: asked.len,
+    };
+    v8_exec::finish_atomic(&mut m.arch, rd, got, &mut m.parts);
+    m.parts.note(made);
+    record(&mut m.order, operation(&made, asked.step));
+}
+
+/// Makes the turn of an atomic. The core stops where the word is bad; else the instruction retires.
+fn exchange(m: &mut Machine, asked: &Pending, rd: u8) -> Option<Ending>
+    requires exchanging { Exchanging m.old.program.now.setup.now asked.now rd m.old }
+    requires limit { m.old.program.now.setup.now.config.steps < 2 ^ 32 - 1 }
+    ensures program { m.new.program.now.setup.now ≡ m.old.program.now.setup.now }
+    ensures on { StepsOn m.old.program.now.setup.now asked.now.step result m.new }
+{
+    match atomic_turn(&mut m.bus, asked) {
+        Ok(word) => {
+            finish(m, asked, rd, word);
+            None
+        }
+        Err(met) => stopped(DATA_ERROR, met, asked.step),
+    }
 }
 
 /// One step of the core.
@@ -106,13 +223,19 @@ pub fn step(m: &mut Machine, step: u32) -> Option<Ending>
     ensures on { StepsOn m.old.program.now.setup.now step result m.new }
 {
     match execute(m.program, &mut m.arch, &mut m.parts, m.hand) {
-        Did::Retired => {
-            retire(m, step);
-            None
+        Did::Retired => retire(m, step),
+        Did::Need(Turn::Load { addr, len, .. }) => read_line(m, addr, len, step),
+        Did::Need(Turn::Atomic { addr, len, new, rd }) => {
+            let asked = Pending {
+                value: u64::from(new),
+                addr,
+                k: m.arch.k,
+                step,
+                len,
+            };
+            exchange(m, &asked, rd)
         }
-        Did::Need(Turn::Load { addr, .. }) => read_line(m, addr, step),
         Did::Halt(tt) => ended(CoreEnd::Halt(tt), step, None),
-        Did::Unbuilt => ended(CoreEnd::Unbuilt, step, None),
         Did::Turned | Did::Need(_) | Did::Stop { .. } => unreachable!(),
     }
 }

@@ -18,4 +18,5 @@ returns c =
       comes = comes_after setup c.args.hand arch arch' parts parts' did (room_of parts) (room_of parts') done c.instruction.ensures.counts;
       core = core_after setup c.args.hand arch arch' parts parts' did (room_of parts) (room_of parts') c.requires.runs.is done c.instruction.ensures.counts;
       counts = c.instruction.ensures.counts;
+      asks = c.instruction.ensures.asks;
     }

@@ -1,20 +1,18 @@
-use Rattle.std.proofs.Common.{refl, sym, subst, Option}
+use Rattle.std.proofs.Common.{◌≡◌, ◌∙◌, ◌-◌, ◌/◌, ℕ, Option, Some, None, refl, sym, subst}
 use Rattle.machine_play.specs.declared.machine.Ending.{Ending}
 use Rattle.machine_play.specs.Ending.{StepsOn}
-use Rattle.machine_play.proofs.StepLemmas.{line_in_ram, LineTurn, going_read, ended_stop}
+use Rattle.machine_play.specs.Service.{line_of}
+use Rattle.machine_play.proofs.LineLemmas.{LineTurn, lowest_place, wants_good, wants_bad, going_read}
+use Rattle.machine_play.proofs.StopLemmas.{ended_load}
 use Rattle.machine_play.proofs.step.read_line.Goals as goal
 
-pub load_turn-read-requires-clause-in_ram : goal.load_turn-read-requires-clause-in_ram
-load_turn-read-requires-clause-in_ram c =
-    line_in_ram c.args.m.now.program.now.setup.now c.args.step c.args.addr c.args.m.now c.requires.reading c.args.m.now.program.now.whole
-
-pub returns-then-read-place : goal.returns-then-read-place
-returns-then-read-place c =
+pub returns-in-Some-clause-on : goal.returns-in-Some-clause-on
+returns-in-Some-clause-on c =
     let m = c.args.m.now in
     let program = m.program.now in
     let setup = program.setup.now in
     let read = c.load_turn-read.result in
-    let turn : LineTurn setup c.args.step c.args.addr m c.load_turn-read.new.bus read.line = record {
+    let turn : LineTurn setup c.args.step c.args.addr c.args.len m c.load_turn-read.new.bus read.line = record {
       reading = c.requires.reading;
       whole = program.whole;
       bytes = program.has_bytes;
@@ -22,19 +20,19 @@ returns-then-read-place c =
       shows = c.load_turn-read.ensures.line;
       made = c.load_turn-read.ensures.made;
     } in
-    record {
-      program = refl;
-      on = subst (λ (o : Option Ending). StepsOn setup c.args.step o (record m { bus = c.load_turn-read.new.bus })) (sym c.ended.ensures)
-          (ended_stop setup c.args.step c.args.addr read.turn _ m c.load_turn-read.new.bus read.line _ turn c.if-read-place.true c.load_turn-read.ensures.turn refl);
-    }
+    let first : ℕ = (c.args.addr - line_of c.args.addr) / 4 in
+    let found : Some c.in-Some.place ≡ lowest_place read.line.bad first c.args.len = sym c.in-Some.is ∙ c.lowest_bad.ensures in
+    subst (λ (o : Option Ending). StepsOn setup c.args.step o (record m { bus = c.load_turn-read.new.bus })) (sym c.stopped.ensures)
+    (ended_load setup c.args.step c.args.addr c.args.len c.in-Some.place read.turn _ m c.load_turn-read.new.bus read.line _ turn
+    (wants_bad read.line.bad first c.args.len c.in-Some.place found) c.load_turn-read.ensures.turn refl)
 
-pub returns : goal.returns
-returns c =
+pub returns-clause-on : goal.returns-clause-on
+returns-clause-on c =
     let m = c.args.m.now in
     let program = m.program.now in
     let setup = program.setup.now in
     let read = c.load_turn-read.result in
-    let turn : LineTurn setup c.args.step c.args.addr m c.load_turn-read.new.bus read.line = record {
+    let turn : LineTurn setup c.args.step c.args.addr c.args.len m c.load_turn-read.new.bus read.line = record {
       reading = c.requires.reading;
       whole = program.whole;
       bytes = program.has_bytes;
@@ -42,4 +40,6 @@ returns c =
       shows = c.load_turn-read.ensures.line;
       made = c.load_turn-read.ensures.made;
     } in
-    record { program = refl; on = going_read setup c.args.step c.args.addr m c.load_turn-read.new.bus read.line turn c.if-read-place.false }
+    let first : ℕ = (c.args.addr - line_of c.args.addr) / 4 in
+    let found : None ≡ lowest_place read.line.bad first c.args.len = sym c.in_default.is ∙ c.lowest_bad.ensures in
+    going_read setup c.args.step c.args.addr c.args.len m c.load_turn-read.new.bus read.line turn (wants_good read.line.bad first c.args.len found)

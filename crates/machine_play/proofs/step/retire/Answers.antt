@@ -2,11 +2,11 @@ use Rattle.std.proofs.Common.{◌≡◌, ◌∙◌, ◌++◌, ◌∷◌, [], Som
 use Rattle.std.specs.List.{slice_get}
 use Rattle.lf_model.specs.declared.trace.Op.{Op}
 use Rattle.machine_play.specs.Machine.{op_in}
-use Rattle.machine_play.proofs.StepLemmas.{newest_at, IsPushed, makes_store, makes_load, can_store, going_store, going_load}
+use Rattle.machine_play.proofs.StepLemmas.{newest_at, IsPushed, makes_store, makes_load, can_store, going_load}
 use Rattle.machine_play.proofs.step.retire.Goals as goal
 
-pub returns-in-Store : goal.returns-in-Store
-returns-in-Store c =
+pub store-requires-clause-storing : goal.store-requires-clause-storing
+store-requires-clause-storing c =
     let m = c.args.m.now in
     let setup = m.program.now.setup.now in
     let r = c.requires.retiring in
@@ -14,13 +14,7 @@ returns-in-Store c =
     let found : slice_get m.parts.ops.items (length r.earlier) ≡ Some entry =
     newest_at r.earlier m.order c.len-made.result c.deref.result.now m.parts.ops.items (Some entry) r.order c.len-made.ensures c.deref.ensures.value (sym c.newest.ensures ∙ c.in-Some.is) in
     let makes = makes_store setup m.hand r.earlier m.parts.ops.items entry r.makes found c.in-Store.is in
-    let can = can_store setup m.hand setup.config.ram r.earlier m.parts.ops.items entry refl makes m.parts.fit in
-    let pushed : IsPushed m.order c.record.new.items (op_in entry c.args.step) = record {
-      items = c.record.ensures.items ∙ ap (λ (o : Op). m.order.items ++ o ∷ []) c.operation.ensures;
-      len = c.record.ensures.len;
-      left = c.record.ensures.left;
-    } in
-    record { program = refl; going = going_store setup c.args.step m c.record.new.items c.store_turn.new.bus entry r makes can.value pushed c.store_turn.ensures.made }
+    record { retiring = r; makes = makes; value = can_store setup m.hand r.earlier m.parts.ops.items entry makes m.parts.fit }
 
 pub returns-in_default-kind : goal.returns-in_default-kind
 returns-in_default-kind c =
@@ -36,4 +30,4 @@ returns-in_default-kind c =
       len = c.record.ensures.len;
       left = c.record.ensures.left;
     } in
-    record { program = refl; going = going_load setup c.args.step m c.record.new.items entry r makes pushed }
+    record { program = refl; on = going_load setup c.args.step m c.record.new.items entry r makes pushed }
