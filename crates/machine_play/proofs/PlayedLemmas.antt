@@ -1,10 +1,10 @@
 -- A machine that has ended leaves a trace as promised.
-use Rattle.std.proofs.Common.{◌≡◌, ℕ, zero, suc, ◌+◌, ◌-◌, ◌*◌, ◌<◌, ◌≤◌, ◌==◌, Bool, true, false, List, [], ◌∷◌, ◌++◌, map, filter, length, drop, take, Vec, Option, Some, None, refl, ap, sym, subst, ◌∙◌, arith, cond, ◌&&◌, ◌||◌, lit<, length-append, ap₂, inl, inr, option_map, ◌≢◌}
+use Rattle.std.proofs.Common.{◌≡◌, ℕ, zero, suc, ◌+◌, ◌-◌, ◌*◌, ◌<◌, ◌≤◌, ◌==◌, Bool, true, false, List, [], ◌∷◌, ◌++◌, map, filter, length, drop, take, Vec, Option, Some, None, refl, ap, sym, subst, ◌∙◌, arith, cond, ◌&&◌, ◌||◌, lit<, length-append, ap₂, inl, inr, ◌⊎◌, option_map, ◌≢◌}
 use Rattle.std.specs.Prelude.{find, option_and_then}
 use Rattle.std.proofs.lemmas.List.Sums.{sum_by-cons}
-use Rattle.std.proofs.lemmas.List.{drop_all, length-map}
-use Rattle.std.proofs.lemmas.Bool.{cases_eq, ne_eqb}
-use Rattle.std.proofs.lemmas.Option.{slice_get-map}
+use Rattle.std.proofs.lemmas.List.{append-nil, drop_all, length-map}
+use Rattle.std.proofs.lemmas.Bool.{cases_lt, ne_eqb}
+use Rattle.std.proofs.lemmas.Option.{slice_get-map, slice_get_past}
 use Rattle.std.specs.List.{AllByRecursion as Each, range_with_len, slice_get, count_by, list_any}
 use Rattle.std.specs.Option.{IfSome, IsSome, IsSomeAnd}
 use Rattle.std.specs.declared.alloc.Global.{Global}
@@ -19,8 +19,8 @@ use Rattle.lf_model.specs.Step.{Seen, state_of, run_seen}
 use Rattle.lf_model.specs.Places.{FailsNowhere, FailsNowhereIn}
 use Rattle.lf_model.specs.Once.{OnceAtCore, OnceAtOrder, OnceAtTransfer, HasMaster}
 use Rattle.lf_model.specs.Execution.{IsThread, ThreadAt, run_of_core, program_order, answers_of}
-use Rattle.lf_model.specs.Results.{ResultAt, ResultAtFinal, Shows, ShowsRegisters, idle_steps, is_lost_by, is_in_steps}
-use Rattle.lf_model.specs.StopCause.{transfers_of, history_met, access_after, access_of, lowest_bad, wanted_words, serves, IsDataError, IsLastOf, HasCause, StopCauseAt}
+use Rattle.lf_model.specs.Results.{ResultAt, ResultAtFinal, LosesStores, Shows, ShowsRegisters, idle_steps, is_lost_by, is_in_steps}
+use Rattle.lf_model.specs.StopCause.{transfers_of, with_entries, history_met, access_after, lowest_bad, wanted_words, serves, word_of, IsDataError, IsStoreError, HasErrorCause, IsLastOf, HasCause, StopCauseAt}
 use Rattle.lf_model.specs.TransferLines.{makes_entry, stops_at, core_stops_at}
 use Rattle.lf_model.specs.FlipFates.{TellsFates}
 use Rattle.lf_model.specs.declared.bus.Entry.{Entry}
@@ -33,7 +33,7 @@ use Rattle.lf_model.specs.declared.control.Arch.{Arch}
 use Rattle.lf_model.specs.declared.flip.Flip.{Flip}
 use Rattle.lf_model.specs.declared.setup.Setup.{Setup}
 use Rattle.lf_model.specs.declared.trace.CoreEnd.{CoreEnd}
-use Rattle.lf_model.specs.declared.trace.CoreEnd.TheVariants.{Halt, Stop, Limit, Unbuilt}
+use Rattle.lf_model.specs.declared.trace.CoreEnd.TheVariants.{Halt, Stop, Limit}
 use Rattle.lf_model.specs.declared.trace.CoreResult.{CoreResult}
 use Rattle.lf_model.specs.declared.trace.Fate.{Fate}
 use Rattle.lf_model.specs.declared.trace.Op.{Op}
@@ -45,14 +45,15 @@ use Rattle.machine_play.specs.Playable.{IsPlayable}
 use Rattle.machine_play.specs.Memory.{NumberedFrom, ReadsEach, IsProgramOrder, entry_answers, RunIs, halted}
 use Rattle.machine_play.specs.Seen.{seen_of, run_of}
 use Rattle.machine_play.specs.Result.{told_register, told_registers, result_of, trace_of}
-use Rattle.machine_play.specs.Service.{is_load_turn, Service, service_by, service_for, IsLeft, IsLineFill}
-use Rattle.machine_play.specs.Transfers.{IsTransfer, IsFill, IsWordStore, IsFillOrStore, HasSteps, TellsTransfers}
+use Rattle.machine_play.specs.Service.{Service, IsSplit, IsLeft, service_by, service_for, is_load_turn, is_atomic_try}
+use Rattle.machine_play.specs.Transfers.{IsTransfer, IsOfKind}
 use Rattle.machine_play.specs.Machine.{met_in, AreTransfers, IsBusOf, AreTurns}
-use Rattle.machine_play.specs.Ending.{IsStopped, RunEnds, Ended}
+use Rattle.machine_play.specs.Ending.{IsLastMade, IsStopped, IsLosing, IsErrorEnd, RunEnds, Ended}
 use Rattle.machine_play.specs.Played.{IsPlayed}
 use Rattle.machine_play.proofs.OneCore.{load_op, store_store, once_order, once_cores, value, program_order_is, answers_are, and_false}
 use Rattle.machine_play.proofs.TurnLemmas.{slice_get_seam}
-use Rattle.machine_play.proofs.TraceLemmas.{NoStops, told_all, each_told, each_mapped, ascending_mapped, if_mapped, loads_mapped, loads_in_steps}
+use Rattle.machine_play.proofs.TraceLemmas.{NoStops, told_all, Splits, splits, short_rest, left_short, entered_kept, each_told, each_mapped, ascending_mapped, if_mapped, loads_mapped, all_in_steps, tries_bounded}
+use Rattle.machine_play.proofs.ToldLemmas.{fates_told}
 
 -- ---- the result
 
@@ -61,14 +62,12 @@ ended_run : CoreEnd → Run → Run
 ended_run (Halt tt_) r = halted tt_ r
 ended_run (Stop tt_ place syn) r = r
 ended_run Limit r = r
-ended_run Unbuilt r = r
 
 run_is : (setup : Setup) (n : ℕ) (r : Run) (transfers : List Transfer) (steps : ℕ) (end : CoreEnd) → RunEnds setup n r transfers steps end → RunIs setup n (ended_run end r)
 unfolding ended_run
 run_is setup n r transfers steps (Halt tt_) h = h
 run_is setup n r transfers steps (Stop tt_ place syn) h = h.0
 run_is setup n r transfers steps Limit h = h.0
-run_is setup n r transfers steps Unbuilt h = h.0
 
 told_at : (s : State) (start len n : ℕ) → n < len → slice_get (map (told_register s) (range_with_len start len)) n ≡ Some (Some (register s (start + n)))
 told_at s start zero n h = absurd (omega arith)
@@ -91,12 +90,28 @@ none_counted c (o ∷ os) h =
     ∙ ap (λ (b : Bool). cond b 1 0 + count_by (is_lost_by c) os) (and_false (of_core c o))
     ∙ omega (arith, none_counted c os h.1)
 
+none_lost : (order kept lost : List Op) → IsSplit order kept lost → lost ≡ [] → 0 < count_by (is_lost_by 0) order → ⊥
+none_lost order kept lost h none some =
+    let same : order ≡ kept = h.split ∙ ap (λ (os : List Op). kept ++ os) none ∙ append-nil kept in
+    omega (arith, some, ap (count_by (is_lost_by 0)) same, none_counted 0 kept h.none_lost)
+
 -- what the result shows, by how the core ended
 record Shown (setup : Setup) (steps : ℕ) (end : CoreEnd) (arch : Arch) (seen : Seen) (ts : List Transfer) (order : List Op) : Type 0 where
   pub run : RunEnds setup arch.n (run_seen arch seen) ts steps end
   pub within : steps ≤ setup.config.steps
   pub bound : steps ≤ arch.n + count_by (is_in_steps 0 steps) (map without_length ts) + idle_steps end
-  pub kept : Each (λ o. is_lost o ≡ false) order
+  pub kept : List Op
+  pub lost : List Op
+  pub split : IsSplit order kept lost
+  pub left : List Service
+  pub behind : IsLeft end left lost
+
+-- a store is lost at a stop 2B alone
+loses : (end : CoreEnd) (left : List Service) (lost order kept : List Op) → IsSplit order kept lost → IsLeft end left lost → 0 < count_by (is_lost_by 0) order → LosesStores end
+loses (Halt tt_) left lost order kept split h some = absurd (none_lost order kept lost split h.1 some)
+loses Limit left lost order kept split h some = absurd (none_lost order kept lost split h.1.1 some)
+loses (Stop tt_ place syn) left lost order kept split (inl h) some = absurd (none_lost order kept lost split h.1.1 some)
+loses (Stop tt_ place syn) left lost order kept split (inr h) some = h.0
 
 shows : (setup : Setup) (steps : ℕ) (end : CoreEnd) (arch : Arch) (seen : Seen) (ts : List Transfer) (order : List Op) (fates : List Fate) → Shown setup steps end arch seen ts order
     → Shows setup (trace_of (result_of arch seen steps end) (map without_length ts) order fates) 0 (result_of arch seen steps end) (ended_run end (run_seen arch seen)).state
@@ -114,7 +129,7 @@ shows setup steps (Halt tt_) arch seen ts order fates h = record {
   ends = tt;
   within = h.within;
   bound = h.bound;
-  lost = λ some. absurd (omega (arith, none_counted 0 order h.kept));
+  lost = loses (Halt tt_) h.left h.lost order h.kept h.split h.behind;
 }
 shows setup steps (Stop tt_ place syn) arch seen ts order fates h = record {
   out = refl;
@@ -129,7 +144,7 @@ shows setup steps (Stop tt_ place syn) arch seen ts order fates h = record {
   ends = tt;
   within = h.within;
   bound = h.bound;
-  lost = λ some. absurd (omega (arith, none_counted 0 order h.kept));
+  lost = loses (Stop tt_ place syn) h.left h.lost order h.kept h.split h.behind;
 }
 shows setup steps Limit arch seen ts order fates h = record {
   out = refl;
@@ -144,30 +159,13 @@ shows setup steps Limit arch seen ts order fates h = record {
   ends = h.run.1;
   within = h.within;
   bound = h.bound;
-  lost = λ some. absurd (omega (arith, none_counted 0 order h.kept));
+  lost = loses Limit h.left h.lost order h.kept h.split h.behind;
 }
-shows setup steps Unbuilt arch seen ts order fates h = record {
-  out = refl;
-  psr = refl;
-  wim = refl;
-  tbr = refl;
-  y = refl;
-  pc = refl;
-  npc = refl;
-  registers = shows_registers (state_of arch seen);
-  halt = refl;
-  ends = h.run.1;
-  within = h.within;
-  bound = h.bound;
-  lost = λ some. absurd (omega (arith, none_counted 0 order h.kept));
-}
-
 ended_ops : (end : CoreEnd) (r : Run) → (ended_run end r).ops ≡ r.ops
 unfolding ended_run
 ended_ops (Halt tt_) r = refl
 ended_ops (Stop tt_ place syn) r = refl
 ended_ops Limit r = refl
-ended_ops Unbuilt r = refl
 
 -- ---- the trace
 
@@ -184,12 +182,13 @@ pub record HasEnded (setup : Setup) (steps : ℕ) (end : CoreEnd) (arch : Arch) 
   pub numbers : NumberedFrom 0 (map made order)
   pub values : ReadsEach (initial_byte setup.image) (map made order)
   pub recorded : map made order ≡ seen.ops
-  pub kept : Each (λ o. is_lost o ≡ false) order
+  pub kept : List Op
+  pub lost : List Op
+  pub split : IsSplit order kept lost
   pub transfers : AreTransfers setup ts
   pub left : List Service
-  pub turns : AreTurns steps arch.n (idle_steps end) left order ts
-  pub behind : IsLeft end left
-  pub fills : Each IsLineFill left
+  pub turns : AreTurns steps arch.n (idle_steps end + count_by is_atomic_try left) left kept ts
+  pub behind : IsLeft end left lost
   pub within : steps ≤ setup.config.steps
 
 -- the core's run, as the trace tells its answers
@@ -201,33 +200,44 @@ run_told setup steps end arch seen order ts h =
     ap answers_of (program_order_is order h.numbers) ∙ answers_are order ∙ ap entry_answers (h.recorded ∙ sym (ended_ops end r)) in
     subst (λ (a : List ℕ). run setup 0 a arch.n ≡ Some (ended_run end r)) (sym answers) (run_is setup arch.n r ts steps end h.run)
 
--- ---- no core stops at a store
+-- ---- no core stops at a transfer that serves an operation
 
 if_each : {X : Type 0} (P : X → Type 0) (o : Option X) → ((x : X) → P x) → IfSome o P
 if_each P None h = tt
 if_each P (Some x) h = h x
 
--- the place of a stop has a fill
-stop_place : (setup : Setup) (r : Run) (ts : List Transfer) (step place syn : ℕ) (h : IsStopped setup r ts step place syn) → slice_get ts place ≡ Some h.last
-stop_place setup r ts step place syn h =
-    ap (λ (n : ℕ). slice_get ts n) h.place_is ∙ ap (λ (xs : List Transfer). slice_get xs (length h.before)) h.transfers_are ∙ slice_get_seam h.before h.last
+-- a stop is at the last transfer
+record StopsAt (ts : List Transfer) (step place : ℕ) : Type 0 where
+  pub last : Transfer
+  pub is : IsLastMade ts step place last
 
-no_stops : (setup : Setup) (steps : ℕ) (end : CoreEnd) (arch : Arch) (seen : Seen) (ts : List Transfer) → RunEnds setup arch.n (run_seen arch seen) ts steps end
-    → NoStops (result_of arch seen steps end ∷ []) 0 ts
-no_stops setup steps (Halt tt_) arch seen ts h i = if_each _ (slice_get ts i) (λ t makes. refl)
-no_stops setup steps Limit arch seen ts h i = if_each _ (slice_get ts i) (λ t makes. refl)
-no_stops setup steps Unbuilt arch seen ts h i = if_each _ (slice_get ts i) (λ t makes. refl)
-no_stops setup steps (Stop tt_ place syn) arch seen ts h i = elim (cases_eq place (0 + i)) [
-  | inl same ↦
-      let s = h.1.1 in
-      let here : slice_get ts i ≡ Some s.last = ap (λ (n : ℕ). slice_get ts n) (omega (arith, same)) ∙ stop_place setup (run_seen arch seen) ts (steps - 1) place syn s in
-      subst (λ (o : Option Transfer). IfSome o (λ t. makes_entry t.kind ≡ true → list_any (core_stops_at (0 + i)) (result_of arch seen steps (Stop tt_ place syn) ∷ []) ≡ false)) (sym here)
-      (λ makes. absurd (load_makes_none s.last.kind s.last_kind makes))
-  | inr other ↦ if_each _ (slice_get ts i) (λ t makes. ap (λ (b : Bool). (b && (tt_ == 0x09 || tt_ == 0x2B)) || false) (ne_eqb place (0 + i) other))
+stop_last : (setup : Setup) (r : Run) (ts : List Transfer) (step tt_ place syn : ℕ) → IsErrorEnd setup r ts step tt_ place syn → StopsAt ts step place
+stop_last setup r ts step tt_ place syn (inl h) = record { last = h.1.last; is = h.1.is }
+stop_last setup r ts step tt_ place syn (inr h) = record { last = h.1.last; is = h.1.is }
+
+stop_place : (ts : List Transfer) (step place : ℕ) (last : Transfer) → IsLastMade ts step place last → slice_get ts place ≡ Some last
+stop_place ts step place last h =
+    ap (λ (n : ℕ). slice_get ts n) h.place_is ∙ ap (λ (xs : List Transfer). slice_get xs (length h.before)) h.transfers_are ∙ slice_get_seam h.before last
+
+-- one transfer stands behind those that serve operations
+left_one : (tt_ place syn : ℕ) (left : List Service) (lost : List Op) → IsLeft (Stop tt_ place syn) left lost → length left ≡ 1
+left_one tt_ place syn left lost (inl h) = ap length h.1.0.is
+left_one tt_ place syn left lost (inr h) = ap length h.1.is
+
+no_stops : (setup : Setup) (steps : ℕ) (end : CoreEnd) (arch : Arch) (seen : Seen) (ts front rest : List Transfer) (left : List Service) (lost : List Op) → RunEnds setup arch.n (run_seen arch seen) ts steps end
+    → ts ≡ front ++ rest → map service_by rest ≡ left → IsLeft end left lost → NoStops (result_of arch seen steps end ∷ []) 0 front
+no_stops setup steps (Halt tt_) arch seen ts front rest left lost h is behind end_left i = if_each _ (slice_get front i) (λ t makes. refl)
+no_stops setup steps Limit arch seen ts front rest left lost h is behind end_left i = if_each _ (slice_get front i) (λ t makes. refl)
+no_stops setup steps (Stop tt_ place syn) arch seen ts front rest left lost h is behind end_left i = elim (cases_lt i (length front)) [
+  | inl within ↦
+      let s = stop_last setup (run_seen arch seen) ts (steps - 1) tt_ place syn h.1 in
+      let one : length rest ≡ 1 = sym (length-map rest service_by) ∙ ap length behind ∙ left_one tt_ place syn left lost end_left in
+      let long : length front + length rest ≡ length s.is.before + 1 =
+      sym (length-append front rest) ∙ ap length (sym is ∙ s.is.transfers_are) ∙ length-append s.is.before (s.last ∷ []) in
+      if_each _ (slice_get front i) (λ t makes. ap (λ (b : Bool). (b && (tt_ == 0x09 || tt_ == 0x2B)) || false) (ne_eqb place (0 + i) (λ same. omega (arith, s.is.place_is, one, long, same))))
+  | inr past ↦ subst (λ (o : Option Transfer). IfSome o (λ t. makes_entry t.kind ≡ true → list_any (core_stops_at (0 + i)) (result_of arch seen steps (Stop tt_ place syn) ∷ []) ≡ false))
+      (sym (slice_get_past front i (omega arith))) tt
 ]
-  where
-    load_makes_none : (k : TurnKind) → k ≡ turns.Load → makes_entry k ≡ true → ⊥
-    load_makes_none k load makes = let none : makes_entry k ≡ false = ap makes_entry load in cc
 
 -- ---- the parts of the promise
 
@@ -238,7 +248,13 @@ its_trace steps end arch seen order ts fates = trace_of (result_of arch seen ste
 same_transfers : (setup : Setup) (steps : ℕ) (end : CoreEnd) (arch : Arch) (seen : Seen) (order : List Op) (ts : List Transfer) (fates : List Fate) → HasEnded setup steps end arch seen order ts
     → transfers_of (its_trace steps end arch seen order ts fates) ≡ ts
 same_transfers setup steps end arch seen order ts fates h =
-    told_all (result_of arch seen steps end ∷ []) 0 order ts h.left h.turns.served h.fills h.kept (no_stops setup steps end arch seen ts h.run)
+    let cores : List CoreResult = result_of arch seen steps end ∷ [] in
+    let parts : Splits ts (map service_for h.kept) h.left = splits ts (map service_for h.kept) h.left h.turns.served in
+    let short : map without_length parts.rest ≡ parts.rest = short_rest parts.rest h.left parts.second (left_short end h.left h.lost h.split.all_lost h.behind) in
+    let free : NoStops cores 0 parts.front = no_stops setup steps end arch seen ts parts.front parts.rest h.left h.lost h.run parts.is parts.second h.behind in
+    ap (λ (es : List Op). with_entries cores 0 es (map without_length ts)) (entered_kept order h.kept h.lost h.split)
+    ∙ ap (λ (xs : List Transfer). with_entries cores 0 (filter enters h.kept) (map without_length xs)) parts.is
+    ∙ told_all cores 0 h.kept parts.front parts.rest parts.first h.split.none_lost free short ∙ sym parts.is
 
 -- a word as a turn met it, by the trace and by the bus
 same_met : (setup : Setup) (trace : Trace) (ts : List Transfer) (turn : ℕ) → transfers_of trace ≡ ts → history_met setup trace turn ≡ met_in setup.flips ts turn
@@ -250,11 +266,11 @@ each_transfer setup trace ts i same h =
     if_mapped (λ t. IsTransfer setup.config.ram (history_met setup trace i) i t) ts i
     (subst (λ (met : ℕ → List Moment). IfSome (slice_get ts i) (λ t. IsTransfer setup.config.ram met i (without_length t))) (sym (same_met setup trace ts i same)) (h.each i))
 
-has_master : (cores ram : ℕ) (met : ℕ → List Moment) (t : Transfer) (master : ℕ) (k : TurnKind) → cores ≡ 1 → master ≡ 0 → IsFillOrStore ram met t k → HasMaster cores master k
+has_master : (cores ram : ℕ) (met : ℕ → List Moment) (t : Transfer) (master : ℕ) (k : TurnKind) → cores ≡ 1 → master ≡ 0 → IsOfKind ram met t k → HasMaster cores master k
 has_master cores ram met t master turns.Load one none h = omega arith
 has_master cores ram met t master turns.Store one none h = omega arith
 has_master cores ram met t master turns.Fetch one none h = absurd h
-has_master cores ram met t master turns.Atomic one none h = absurd h
+has_master cores ram met t master turns.Atomic one none h = omega arith
 has_master cores ram met t master turns.Snoop one none h = absurd h
 has_master cores ram met t master turns.Look one none h = absurd h
 has_master cores ram met t master turns.Fix one none h = absurd h
@@ -274,35 +290,49 @@ once_transfers setup ts one h i within =
     (λ t told. has_master setup.config.cores setup.config.ram (met_in setup.flips ts i) (without_length t) t.master t.kind one told.master told.made) (h.each i))
 
 -- the cause of a stop
-record Caused (setup : Setup) (trace : Trace) (n : ℕ) (r : Run) (ts : List Transfer) (step place syn : ℕ) : Type 0 where
+record Caused (setup : Setup) (trace : Trace) (n : ℕ) (r : Run) (ts : List Transfer) : Type 0 where
   pub told : run_of_core setup trace 0 n ≡ Some r
   pub listed : trace.transfers ≡ map without_length ts
   pub same : transfers_of trace ≡ ts
-  pub stop : IsStopped setup r ts step place syn
 
-data_error : (setup : Setup) (trace : Trace) (n : ℕ) (r : Run) (ts : List Transfer) (step place syn : ℕ) → Caused setup trace n r ts step place syn → IsDataError setup trace 0 n step place syn
-data_error setup trace n r ts step place syn c =
-    let s = c.stop in
+-- the transfer of a stop, in the trace
+stop_told : (setup : Setup) (trace : Trace) (n : ℕ) (r : Run) (ts : List Transfer) (step place : ℕ) (last : Transfer) → Caused setup trace n r ts → IsLastMade ts step place last
+    → slice_get trace.transfers place ≡ Some (without_length last)
+stop_told setup trace n r ts step place last c is =
+    ap (λ (xs : List Transfer). slice_get xs place) c.listed ∙ slice_get-map without_length ts place ∙ ap (option_map without_length) (stop_place ts step place last is)
+
+data_error : (setup : Setup) (trace : Trace) (n : ℕ) (r : Run) (ts : List Transfer) (step place syn : ℕ) → Caused setup trace n r ts → IsStopped setup r ts step place syn → IsDataError setup trace 0 n step place syn
+data_error setup trace n r ts step place syn c s =
     let access : access_after setup trace 0 n ≡ Some s.a =
-    ap (option_and_then (λ q. option_and_then access_of (effect_at_pc setup 0 q.state))) c.told ∙ ap (option_and_then access_of) s.its ∙ s.access in
-    let at : slice_get trace.transfers place ≡ Some (without_length s.last) =
-    ap (λ (xs : List Transfer). slice_get xs place) c.listed ∙ slice_get-map without_length ts place ∙ ap (option_map without_length) (stop_place setup r ts step place syn s) in
+    ap (option_and_then (λ q. (effect_at_pc setup 0 q.state).access)) c.told ∙ ap (λ (e : Effect). e.access) s.its ∙ s.access in
+    let at : slice_get trace.transfers place ≡ Some (without_length s.last) = stop_told setup trace n r ts step place s.last c s.is in
     let lowest : lowest_bad setup trace place s.a ≡ Some s.word =
     ap (λ (met : ℕ → List Moment). find (λ w. is_bad_word (met w)) (wanted_words s.a)) (same_met setup trace ts place c.same) ∙ s.lowest in
-    let serve : serves s.last.kind s.a.kind ≡ true = ap₂ serves s.last_kind s.kind in
     record {
       transfer = subst (λ (o : Option Transfer). IsSomeAnd o (λ t. (t.master ≡ 0) × (t.step ≡ step) × IsSomeAnd (access_after setup trace 0 n) (λ a. serves t.kind a.kind ≡ true))) (sym at)
-          (s.last_master, s.last_step, subst (λ (o : Option Access). IsSomeAnd o (λ a. serves s.last.kind a.kind ≡ true)) (sym access) serve);
+          (s.is.master, s.is.made_in, subst (λ (o : Option Access). IsSomeAnd o (λ a. serves s.last.kind a.kind ≡ true)) (sym access) s.serve);
       word = subst (λ (o : Option Access). IsSomeAnd o (λ a. IsSomeAnd (lowest_bad setup trace place a) (λ word. syn ≡ syndrome (history_met setup trace place word)))) (sym access)
           (subst (λ (o : Option ℕ). IsSomeAnd o (λ word. syn ≡ syndrome (history_met setup trace place word))) (sym lowest)
           (s.syn_is ∙ ap (λ (met : ℕ → List Moment). syndrome (met s.word)) (sym (same_met setup trace ts place c.same))));
     }
 
-last_of : (setup : Setup) (trace : Trace) (n : ℕ) (r : Run) (ts : List Transfer) (step place syn : ℕ) → Caused setup trace n r ts step place syn → IsLastOf 0 trace.transfers place
-last_of setup trace n r ts step place syn c =
-    let s = c.stop in
+store_error : (setup : Setup) (trace : Trace) (n : ℕ) (r : Run) (ts : List Transfer) (step place syn : ℕ) → Caused setup trace n r ts → IsLosing setup ts step place syn
+    → IsSomeAnd (slice_get trace.transfers place) (IsStoreError setup trace 0 step place syn)
+store_error setup trace n r ts step place syn c s =
+    let met : history_met setup trace place ≡ met_in setup.flips ts place = same_met setup trace ts place c.same in
+    subst (λ (o : Option Transfer). IsSomeAnd o (IsStoreError setup trace 0 step place syn)) (sym (stop_told setup trace n r ts step place s.last c s.is)) (record {
+      master = s.is.master;
+      made_in = s.is.made_in;
+      kind = s.kind;
+      reads = s.words;
+      bad = ap (λ (h : ℕ → List Moment). is_bad_word (h (word_of s.last))) met ∙ s.bad;
+      told = s.syn_is ∙ ap (λ (h : ℕ → List Moment). syndrome (h (word_of s.last))) (sym met);
+    })
+
+last_of : (trace : Trace) (ts : List Transfer) (step place : ℕ) (last : Transfer) → trace.transfers ≡ map without_length ts → IsLastMade ts step place last → IsLastOf 0 trace.transfers place
+last_of trace ts step place last listed is =
     let long : length trace.transfers ≤ place + 1 =
-    omega (arith, ap length c.listed, length-map ts without_length, ap length s.transfers_are, length-append s.before (s.last ∷ []), s.place_is) in
+    omega (arith, ap length listed, length-map ts without_length, ap length is.transfers_are, length-append is.before (last ∷ []), is.place_is) in
     subst (λ (xs : List Transfer). Each (λ t. t.master ≢ 0) xs) (sym (drop_all (place + 1) trace.transfers long)) tt
 
 has_cause : (setup : Setup) (trace : Trace) (r : CoreResult) (q : Run) (ts : List Transfer) (end : CoreEnd) → run_of_core setup trace 0 r.n ≡ Some (ended_run end q) → trace.transfers ≡ map without_length ts
@@ -310,10 +340,16 @@ has_cause : (setup : Setup) (trace : Trace) (r : CoreResult) (q : Run) (ts : Lis
 unfolding ended_run
 has_cause setup trace r q ts (Halt tt_) told listed same h = tt
 has_cause setup trace r q ts Limit told listed same h = tt
-has_cause setup trace r q ts Unbuilt told listed same h = tt
 has_cause setup trace r q ts (Stop tt_ place syn) told listed same h =
-    let c : Caused setup trace r.n q ts (r.steps - 1) place syn = record { told = told; listed = listed; same = same; stop = h.1.1 } in
-    (h.1.0, (data_error setup trace r.n q ts (r.steps - 1) place syn c, last_of setup trace r.n q ts (r.steps - 1) place syn c))
+    let s = stop_last setup q ts (r.steps - 1) tt_ place syn h.1 in
+    (by_error h.1, last_of trace ts (r.steps - 1) place s.last listed s.is)
+  where
+    c : Caused setup trace r.n q ts
+    c = record { told = told; listed = listed; same = same }
+
+    by_error : IsErrorEnd setup q ts (r.steps - 1) tt_ place syn → HasErrorCause setup trace 0 r.n (r.steps - 1) tt_ place syn
+    by_error (inl e) = inl (e.0, data_error setup trace r.n q ts (r.steps - 1) place syn c e.1)
+    by_error (inr e) = inr (e.0, store_error setup trace r.n q ts (r.steps - 1) place syn c e.1)
 
 -- ---- the promise
 
@@ -323,7 +359,7 @@ played_trace setup steps end arch seen order ts fates no_words h told_fates =
     let r : CoreResult = result_of arch seen steps end in
     let trace : Trace = its_trace steps end arch seen order ts fates in
     let q : Run = ended_run end (run_seen arch seen) in
-    let program : IsProgramOrder (initial_byte setup.image) order = record { numbers = h.numbers; none_lost = h.kept; values = h.values } in
+    let program : IsProgramOrder (initial_byte setup.image) order = record { numbers = h.numbers; kept = h.kept; lost = h.lost; split = h.split; values = h.values } in
     let same : transfers_of trace ≡ ts = same_transfers setup steps end arch seen order ts fates h in
     let told : run_of_core setup trace 0 r.n ≡ Some q = run_told setup steps end arch seen order ts h in
     let at_most : r.n ≤ steps = omega (arith, h.turns.counted) in
@@ -332,13 +368,12 @@ played_trace setup steps end arch seen order ts fates no_words h told_fates =
       same = subst (λ (o : Option Run). IsSomeAnd o (λ x. x.ops ≡ map made (program_order 0 order))) (sym told)
           (ended_ops end (run_seen arch seen) ∙ sym h.recorded ∙ ap (map made) (sym (program_order_is order h.numbers)));
     } in
-    let in_steps : count_by is_load_turn ts ≤ count_by (is_in_steps 0 steps) (map without_length ts) =
-    omega (
-      arith,
-      loads_mapped ts,
-      loads_in_steps steps (map without_length ts) (each_mapped (λ t. t.master ≡ 0) ts (masters setup ts h.transfers)) (each_mapped (λ t. t.step < steps) ts h.turns.below),
-    ) in
-    let shown : Shown setup steps end arch seen ts order = record { run = h.run; within = h.within; bound = omega (arith, h.turns.counted, in_steps); kept = h.kept } in
+    let in_steps : count_by (is_in_steps 0 steps) (map without_length ts) ≡ length ts =
+    all_in_steps steps (map without_length ts) (each_mapped (λ t. t.master ≡ 0) ts (masters setup ts h.transfers)) (each_mapped (λ t. t.step < steps) ts h.turns.below)
+    ∙ length-map ts without_length in
+    let bound : steps ≤ arch.n + count_by (is_in_steps 0 steps) (map without_length ts) + idle_steps end =
+    omega (arith, h.turns.counted, in_steps, tries_bounded ts (map service_for h.kept) h.left h.turns.served) in
+    let shown : Shown setup steps end arch seen ts order = record { run = h.run; within = h.within; bound = bound; kept = h.kept; lost = h.lost; split = h.split; left = h.left; behind = h.behind } in
     let result : IfSome (run_of_core setup trace 0 r.n) (λ x. Shows setup trace 0 r x.state) =
     subst (λ (o : Option Run). IfSome o (λ x. Shows setup trace 0 r x.state)) (sym told) (shows setup steps end arch seen ts order fates shown) in
     record {
@@ -360,9 +395,11 @@ played_trace setup steps end arch seen order ts fates no_words h told_fates =
       fates = subst (λ (xs : List Transfer). TellsFates setup.flips xs fates) (sym same) told_fates;
       transfers = record {
         each = λ i within. each_transfer setup trace ts i same h.transfers;
+        kept = h.kept;
+        lost = h.lost;
+        order = h.split;
         left = h.left;
         served = ap (map service_by) same ∙ h.turns.served;
-        fills = h.fills;
         same = ap (map without_length) same;
         behind = (h.behind, tt);
         ascending = ascending_mapped ts h.turns.ascending;
@@ -375,20 +412,21 @@ played_trace setup steps end arch seen order ts fates no_words h told_fates =
     }
 
 -- what is known of a machine that has ended
-ended_facts : (setup : Setup) (ending : Ending) (m : Machine) → setup.config.cores ≡ 1 → Ended setup ending m
-    → HasEnded setup ending.steps ending.end m.arch (seen_of m.parts) m.order.items m.bus.transfers
+ended_facts : (setup : Setup) (ending : Ending) (m : Machine) → setup.config.cores ≡ 1 → (h : Ended setup ending m)
+    → HasEnded setup ending.steps ending.end m.arch (seen_of m.parts) m.order.items h.told
 ended_facts setup ending m one h = record {
   one = one;
   run = h.run;
-  numbers = subst (λ (es : List Entry). NumberedFrom 0 es) (sym h.order.recorded) h.core.numbers;
-  values = subst (λ (es : List Entry). ReadsEach (initial_byte setup.image) es) (sym h.order.recorded) h.core.reads;
-  recorded = h.order.recorded;
-  kept = h.order.none_lost;
+  numbers = subst (λ (es : List Entry). NumberedFrom 0 es) (sym h.recorded) h.core.numbers;
+  values = subst (λ (es : List Entry). ReadsEach (initial_byte setup.image) es) (sym h.recorded) h.core.reads;
+  recorded = h.recorded;
+  kept = h.kept;
+  lost = h.lost;
+  split = h.split;
   transfers = h.bus.transfers;
   left = h.left;
   turns = h.turns;
   behind = h.behind;
-  fills = h.fills;
   within = h.within;
 }
 
@@ -396,6 +434,7 @@ pub played : (setup : Setup) (ending : Ending) (m : Machine) (r : CoreResult) (t
     → r ≡ result_of m.arch (seen_of m.parts) ending.steps ending.end → transfers ≡ map without_length m.bus.transfers → TellsFates m.bus.flips m.bus.transfers fates
     → trace ≡ trace_of r transfers m.order.items fates → IsPlayed setup trace
 played setup ending m r transfers fates trace playable h result listed told_fates is =
-    subst (λ (t : Trace). IsPlayed setup t) (sym (is ∙ ap₂ (λ (x : CoreResult) (ts : List Transfer). trace_of x ts m.order.items fates) result listed))
-    (played_trace setup ending.steps ending.end m.arch (seen_of m.parts) m.order.items m.bus.transfers fates playable.no_words (ended_facts setup ending m playable.one_core h)
-    (subst (λ (flips : List Flip). TellsFates flips m.bus.transfers fates) h.bus.flips told_fates))
+    let its_fates : TellsFates setup.flips m.bus.transfers fates = subst (λ (flips : List Flip). TellsFates flips m.bus.transfers fates) h.bus.flips told_fates in
+    subst (λ (t : Trace). IsPlayed setup t) (sym (is ∙ ap₂ (λ (x : CoreResult) (ts : List Transfer). trace_of x ts m.order.items fates) result (listed ∙ sym h.bus.same)))
+    (played_trace setup ending.steps ending.end m.arch (seen_of m.parts) m.order.items h.told fates playable.no_words (ended_facts setup ending m playable.one_core h)
+    (fates_told setup.flips m.bus.transfers h.told fates setup.config.ram playable.aims h.bus.same h.bus.histories its_fates))

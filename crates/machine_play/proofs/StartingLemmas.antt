@@ -74,7 +74,7 @@ reads_none initial i a d within = absurd (omega arith)
 pub started : (setup : Setup) (m : Machine) → IsPlayable setup → m.hand ≡ None → m.arch.ctl ≡ reset_control setup.image.entry
     → (m.arch.wim ≡ 2) × (m.arch.y ≡ 0) × (m.arch.core ≡ 0) × (m.arch.n ≡ 0) × (m.arch.k ≡ 0) → m.parts.program.now.setup.now ≡ setup
     → m.parts.cells.items ≡ slice_set (replicate 136 0) (cell 0 8) 0 → (m.parts.out.items ≡ []) × (m.parts.ops.items ≡ []) × (vec_len m.parts.ops ≡ 0)
-    → setup.config.steps ≤ room_of m.parts → StartsWith setup m.bus → m.order.items ≡ [] → vec_len m.order ≡ 0 → setup.config.steps ≤ vec_capacity m.order → Going setup 0 m
+    → 2 * setup.config.steps ≤ room_of m.parts → StartsWith setup m.bus → m.order.items ≡ [] → vec_len m.order ≡ 0 → setup.config.steps ≤ vec_capacity m.order → Going setup 0 m
 started setup m playable hand control rest same cells empty room bus none zero_is spare = record {
   core = record {
     is = record {

@@ -68,6 +68,7 @@ all_kept es order h = record { split = sym (append-nil order); none_lost = h.non
 pub told_as_is : (setup : Setup) (es : List Entry) (order : List Op) (bus : BusState) → IsOrder es order → IsBusOf setup es bus → IsBusTold setup (map made order) bus bus.transfers
 told_as_is setup es order bus h b = record {
   flips = b.flips;
+  idle = b.idle;
   words = subst (λ (xs : List Entry). HoldsWords setup xs bus.words) (sym h.recorded) b.words;
   transfers = b.transfers;
   same = refl;
@@ -186,6 +187,7 @@ told_refused : (setup : Setup) (es : List Entry) (order : List Op) (bus bus' : B
     → IsBusTold setup (map made order) bus' (bus.transfers ++ without_length t ∷ [])
 told_refused setup es order bus bus' t h b is refused told = record {
   flips = ap (λ (x : BusState). x.flips) is ∙ b.flips;
+  idle = ap (λ (x : BusState). x.begun) is;
   words = subst (λ (x : BusState). HoldsWords setup (map made order) x.words) (sym is) (subst (λ (xs : List Entry). HoldsWords setup xs bus.words) (sym h.recorded) b.words);
   transfers = transfers_push setup bus.transfers (without_length t) b.transfers told;
   same = map-append without_length bus.transfers (without_length t ∷ []) ∙ sym (map-append without_length bus.transfers (t ∷ []))

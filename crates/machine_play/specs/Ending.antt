@@ -1,5 +1,5 @@
 -- How the machine ends, and what is known of it then.
-use Rattle.std.specs.Prelude.{ℕ, ◌≡◌, ◌≤◌, ◌+◌, ◌-◌, ◌%◌, ◌++◌, ◌∷◌, ◌⊎◌, [], true, List, Option, Some, None, length, map, find}
+use Rattle.std.specs.Prelude.{ℕ, ◌≡◌, ◌≤◌, ◌+◌, ◌-◌, ◌%◌, ◌++◌, ◌∷◌, ◌⊎◌, [], true, false, List, Option, Some, None, length, map, find}
 use Rattle.std.specs.List.{count_by}
 use Rattle.lf_model.specs.Effect.{Access, Effect}
 use Rattle.lf_model.specs.Flips.{is_bad_word, syndrome}
@@ -69,6 +69,7 @@ RunEnds setup n r transfers steps Limit = RunIs setup n r × (steps ≡ setup.co
 -- nothing, so that the histories of words are the same
 pub record IsBusTold (setup : Setup) (es : List Entry) (bus : BusState) (told : List Transfer) : Type 0 where
   pub flips : bus.flips ≡ setup.flips
+  pub idle : bus.begun ≡ false
   pub words : HoldsWords setup es bus.words
   pub transfers : AreTransfers setup told
   pub same : map without_length told ≡ map without_length bus.transfers
