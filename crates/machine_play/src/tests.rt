@@ -23,16 +23,16 @@ const FIRST: u32 = 0x4000_0000;
 /// The word that programs load and store, and flips strike.
 const WORD: u32 = 0x4000_1000;
 
-/// A transfer: its step, kind, cause, words read and syndromes.
-type Made = (u32, TurnKind, Why, u8, u64);
+/// A transfer: its step, kind, cause, address, words read and syndromes.
+type Made = (u32, TurnKind, Why, u32, u8, u64);
 
-/// An operation: its kind, number, step and address, and the number that it read or put.
-type Done = (OpKind, u32, u32, u32, u64);
+/// An operation: its kind, number, step, address and length, and the numbers that it read and put.
+type Done = (OpKind, u32, u32, u32, u8, u64, u64);
 
-/// A program with the bits of `WORD` that flips strike at turn 0, and what its run must tell.
+/// A program with the words and bits that flips strike at turn 0, and what its run must tell.
 struct Row {
     program: [u8; 20],
-    bits: &'static [u8],
+    flips: &'static [(u32, u8)],
     /// The trap type of a halt.
     halt: Option<u8>,
     /// The type, place and syndrome of a stop.
@@ -66,11 +66,47 @@ const LOAD_AND_OUTPUT: [u8; 20] = [
     0x91, 0xd0, 0x20, 0x00,
 ];
 
+/// SETHI, OR, STB to RAM, and a trap.
+const STORE_BYTE: [u8; 20] = [
+    0x03, 0x10, 0x00, 0x04, 0x92, 0x10, 0x20, 0x77, 0xd2, 0x28, 0x60, 0x00, 0x91, 0xd0, 0x20, 0x00,
+    0x01, 0x00, 0x00, 0x00,
+];
+
+/// SETHI, OR, STH to the low half of a word of RAM, LD of the word, and a trap.
+const STORE_HALF_AND_LOAD: [u8; 20] = [
+    0x03, 0x10, 0x00, 0x04, 0x92, 0x10, 0x20, 0x77, 0xd2, 0x30, 0x60, 0x02, 0xd4, 0x00, 0x60, 0x00,
+    0x91, 0xd0, 0x20, 0x00,
+];
+
+/// SETHI, OR, SWAP with a word of RAM, LD of it, and a trap.
+const EXCHANGE_WORD: [u8; 20] = [
+    0x03, 0x10, 0x00, 0x04, 0x92, 0x10, 0x20, 0x77, 0xd2, 0x78, 0x60, 0x00, 0xd4, 0x00, 0x60, 0x00,
+    0x91, 0xd0, 0x20, 0x00,
+];
+
+/// SETHI, OR, ST to RAM, LDSTUB of the word's last byte, and a trap.
+const EXCHANGE_BYTE: [u8; 20] = [
+    0x03, 0x10, 0x00, 0x04, 0x92, 0x10, 0x20, 0x77, 0xd2, 0x20, 0x60, 0x00, 0xd4, 0x68, 0x60, 0x03,
+    0x91, 0xd0, 0x20, 0x00,
+];
+
+/// SETHI, OR, STD of %o0 and %o1 to RAM, LDD of them, and a trap.
+const DOUBLE: [u8; 20] = [
+    0x03, 0x10, 0x00, 0x04, 0x92, 0x10, 0x20, 0x77, 0xd0, 0x38, 0x60, 0x00, 0xd4, 0x18, 0x60, 0x00,
+    0x91, 0xd0, 0x20, 0x00,
+];
+
+/// SETHI, LDD, and a trap.
+const LOAD_DOUBLE: [u8; 20] = [
+    0x03, 0x10, 0x00, 0x04, 0xd4, 0x18, 0x60, 0x00, 0x91, 0xd0, 0x20, 0x00, 0x01, 0x00, 0x00, 0x00,
+    0x01, 0x00, 0x00, 0x00,
+];
+
 /// The columns of the code are 4f of bit 0 and 4a of bit 1.
-const ROWS: [Row; 5] = [
+const ROWS: [Row; 13] = [
     Row {
         program: OUTPUT,
-        bits: &[],
+        flips: &[],
         halt: Some(0x80),
         stop: None,
         n: 4,
@@ -84,7 +120,7 @@ const ROWS: [Row; 5] = [
     },
     Row {
         program: STORE_AND_LOAD,
-        bits: &[],
+        flips: &[],
         halt: Some(0x80),
         stop: None,
         n: 5,
@@ -93,19 +129,19 @@ const ROWS: [Row; 5] = [
         out: &[],
         register: (9, 0x41),
         transfers: &[
-            (2, TurnKind::Store, Why::Full, 0, 0),
-            (3, TurnKind::Load, Why::Absent, 8, 0),
+            (2, TurnKind::Store, Why::Full, WORD, 0, 0),
+            (3, TurnKind::Load, Why::Absent, WORD, 8, 0),
         ],
         order: &[
-            (OpKind::Store, 0, 2, WORD, 0x41),
-            (OpKind::Load, 1, 4, WORD, 0x41),
+            (OpKind::Store, 0, 2, WORD, 4, 0, 0x41),
+            (OpKind::Load, 1, 4, WORD, 4, 0x41, 0),
         ],
         fates: &[],
     },
     // One turned bit is put right.
     Row {
         program: LOAD_AND_OUTPUT,
-        bits: &[0],
+        flips: &[(WORD, 0)],
         halt: Some(0x80),
         stop: None,
         n: 5,
@@ -113,14 +149,14 @@ const ROWS: [Row; 5] = [
         pc: 0x4000_0010,
         out: &[0],
         register: (8, 0),
-        transfers: &[(2, TurnKind::Load, Why::Absent, 8, 0x4f00_0000_0000_0000)],
-        order: &[(OpKind::Load, 0, 3, WORD, 0)],
+        transfers: &[(2, TurnKind::Load, Why::Absent, WORD, 8, 0x4f00_0000_0000_0000)],
+        order: &[(OpKind::Load, 0, 3, WORD, 4, 0, 0)],
         fates: &[Fate::Dormant],
     },
     // Two stop the core.
     Row {
         program: LOAD_AND_OUTPUT,
-        bits: &[0, 1],
+        flips: &[(WORD, 0), (WORD, 1)],
         halt: None,
         stop: Some((0x09, 0, 0x05)),
         n: 2,
@@ -128,14 +164,14 @@ const ROWS: [Row; 5] = [
         pc: 0x4000_0008,
         out: &[],
         register: (8, 0),
-        transfers: &[(2, TurnKind::Load, Why::Absent, 8, 0x0500_0000_0000_0000)],
+        transfers: &[(2, TurnKind::Load, Why::Absent, WORD, 8, 0x0500_0000_0000_0000)],
         order: &[],
         fates: &[Fate::Stopped, Fate::Stopped],
     },
     // One bit turned twice reads clean, and a third flip is declined.
     Row {
         program: LOAD_AND_OUTPUT,
-        bits: &[0, 0, 5],
+        flips: &[(WORD, 0), (WORD, 0), (WORD, 5)],
         halt: Some(0x80),
         stop: None,
         n: 5,
@@ -143,9 +179,185 @@ const ROWS: [Row; 5] = [
         pc: 0x4000_0010,
         out: &[0],
         register: (8, 0),
-        transfers: &[(2, TurnKind::Load, Why::Absent, 8, 0)],
-        order: &[(OpKind::Load, 0, 3, WORD, 0)],
+        transfers: &[(2, TurnKind::Load, Why::Absent, WORD, 8, 0)],
+        order: &[(OpKind::Load, 0, 3, WORD, 4, 0, 0)],
         fates: &[Fate::Dormant, Fate::Dormant, Fate::Declined],
+    },
+    // A byte is merged into a word with one turned bit, which is put right.
+    Row {
+        program: STORE_BYTE,
+        flips: &[(WORD, 0)],
+        halt: Some(0x80),
+        stop: None,
+        n: 4,
+        steps: 4,
+        pc: 0x4000_000c,
+        out: &[],
+        register: (9, 0x77),
+        transfers: &[(
+            2,
+            TurnKind::Store,
+            Why::Full,
+            WORD,
+            1,
+            0x4f00_0000_0000_0000,
+        )],
+        order: &[(OpKind::Store, 0, 2, WORD, 1, 0, 0x77)],
+        fates: &[Fate::Repaired],
+    },
+    // With two, the store is lost, and the core stops behind it.
+    Row {
+        program: STORE_BYTE,
+        flips: &[(WORD, 0), (WORD, 1)],
+        halt: None,
+        stop: Some((0x2b, 0, 0x05)),
+        n: 3,
+        steps: 3,
+        pc: 0x4000_000c,
+        out: &[],
+        register: (9, 0x77),
+        transfers: &[(
+            2,
+            TurnKind::Store,
+            Why::Full,
+            WORD,
+            1,
+            0x0500_0000_0000_0000,
+        )],
+        order: &[(OpKind::Lost, 0, 2, WORD, 1, 0, 0x77)],
+        fates: &[Fate::Stopped, Fate::Stopped],
+    },
+    Row {
+        program: STORE_HALF_AND_LOAD,
+        flips: &[],
+        halt: Some(0x80),
+        stop: None,
+        n: 5,
+        steps: 6,
+        pc: 0x4000_0010,
+        out: &[],
+        register: (10, 0x77),
+        transfers: &[
+            (2, TurnKind::Store, Why::Full, WORD + 2, 1, 0),
+            (3, TurnKind::Load, Why::Absent, WORD, 8, 0),
+        ],
+        order: &[
+            (OpKind::Store, 0, 2, WORD + 2, 2, 0, 0x77),
+            (OpKind::Load, 1, 4, WORD, 4, 0x77, 0),
+        ],
+        fates: &[],
+    },
+    // SWAP reads 0, put right, and puts what the load reads.
+    Row {
+        program: EXCHANGE_WORD,
+        flips: &[(WORD, 0)],
+        halt: Some(0x80),
+        stop: None,
+        n: 5,
+        steps: 6,
+        pc: 0x4000_0010,
+        out: &[],
+        register: (10, 0x77),
+        transfers: &[
+            (
+                2,
+                TurnKind::Atomic,
+                Why::None,
+                WORD,
+                1,
+                0x4f00_0000_0000_0000,
+            ),
+            (3, TurnKind::Load, Why::Absent, WORD, 8, 0),
+        ],
+        order: &[
+            (OpKind::Atomic, 0, 2, WORD, 4, 0, 0x77),
+            (OpKind::Load, 1, 4, WORD, 4, 0x77, 0),
+        ],
+        fates: &[Fate::Repaired],
+    },
+    // On a bad word it stops the core, which keeps its register.
+    Row {
+        program: EXCHANGE_WORD,
+        flips: &[(WORD, 0), (WORD, 1)],
+        halt: None,
+        stop: Some((0x09, 0, 0x05)),
+        n: 2,
+        steps: 3,
+        pc: 0x4000_0008,
+        out: &[],
+        register: (9, 0x77),
+        transfers: &[(
+            2,
+            TurnKind::Atomic,
+            Why::None,
+            WORD,
+            1,
+            0x0500_0000_0000_0000,
+        )],
+        order: &[],
+        fates: &[Fate::Stopped, Fate::Stopped],
+    },
+    Row {
+        program: EXCHANGE_BYTE,
+        flips: &[(WORD, 38)],
+        halt: Some(0x80),
+        stop: None,
+        n: 5,
+        steps: 5,
+        pc: 0x4000_0010,
+        out: &[],
+        register: (10, 0x77),
+        transfers: &[
+            (2, TurnKind::Store, Why::Full, WORD, 0, 0),
+            (3, TurnKind::Atomic, Why::None, WORD + 3, 1, 0),
+        ],
+        order: &[
+            (OpKind::Store, 0, 2, WORD, 4, 0, 0x77),
+            (OpKind::Atomic, 1, 3, WORD + 3, 1, 0x77, 0xff),
+        ],
+        fates: &[Fate::Overwritten],
+    },
+    Row {
+        program: DOUBLE,
+        flips: &[(WORD + 4, 5)],
+        halt: Some(0x80),
+        stop: None,
+        n: 5,
+        steps: 6,
+        pc: 0x4000_0010,
+        out: &[],
+        register: (11, 0x77),
+        transfers: &[
+            (2, TurnKind::Store, Why::Full, WORD, 0, 0),
+            (3, TurnKind::Load, Why::Absent, WORD, 8, 0),
+        ],
+        order: &[
+            (OpKind::Store, 0, 2, WORD, 8, 0, 0x77),
+            (OpKind::Load, 1, 4, WORD, 8, 0x77, 0),
+        ],
+        fates: &[Fate::Overwritten],
+    },
+    // LDD wants the second word, too.
+    Row {
+        program: LOAD_DOUBLE,
+        flips: &[(WORD + 4, 0), (WORD + 4, 1)],
+        halt: None,
+        stop: Some((0x09, 0, 0x05)),
+        n: 1,
+        steps: 2,
+        pc: 0x4000_0004,
+        out: &[],
+        register: (11, 0),
+        transfers: &[(
+            1,
+            TurnKind::Load,
+            Why::Absent,
+            WORD,
+            8,
+            0x0005_0000_0000_0000,
+        )],
+        order: &[],
+        fates: &[Fate::Stopped, Fate::Stopped],
     },
 ];
 
@@ -169,14 +381,11 @@ fn all_aimed(flips: &[Flip]) -> bool
     true
 }
 
-fn script(alloc: Global, bits: &[u8]) -> Result<Vec<Flip>, AllocError> {
+fn script(alloc: Global, strikes: &[(u32, u8)]) -> Result<Vec<Flip>, AllocError> {
     let mut flips = Vec::new(alloc);
-    for bit in bits {
-        flips.push(Flip::Mem {
-            turn: 0,
-            addr: WORD,
-            bit: *bit,
-        })?;
+    for strike in strikes {
+        let (addr, bit) = *strike;
+        flips.push(Flip::Mem { turn: 0, addr, bit })?;
     }
     Ok(flips)
 }
@@ -253,7 +462,7 @@ fn expect_core(rt: &impl Abort, trace: &Trace, row: &Row) {
     let (halt, stop) = match core.end {
         CoreEnd::Halt(tt) => (Some(tt), None),
         CoreEnd::Stop { tt, place, syn } => (None, Some((tt, place, syn))),
-        CoreEnd::Limit | CoreEnd::Unbuilt => (None, None),
+        CoreEnd::Limit => (None, None),
     };
     assert_eq!(rt; halt, row.halt);
     assert_eq!(rt; stop, row.stop);
@@ -269,10 +478,12 @@ fn expect_bus(rt: &impl Abort, trace: &Trace, row: &Row) {
     assert_eq!(rt; transfers.len(), row.transfers.len());
     for i in 0..transfers.len() {
         let made = transfers[i];
-        let told = (made.step, made.kind, made.why, made.words, made.syn);
+        let told = (
+            made.step, made.kind, made.why, made.addr, made.words, made.syn,
+        );
         assert_eq!(rt; told, row.transfers[i], "transfer {i}");
-        let rest = (made.turn as usize, made.master, made.addr, made.way);
-        assert_eq!(rt; rest, (i, 0, WORD, 0), "transfer {i}");
+        let rest = (made.turn as usize, made.master, made.way);
+        assert_eq!(rt; rest, (i, 0, 0), "transfer {i}");
     }
     let order = trace.order.as_slice();
     assert_eq!(rt; order.len(), row.order.len());
@@ -283,7 +494,9 @@ fn expect_bus(rt: &impl Abort, trace: &Trace, row: &Row) {
             done.k,
             done.step,
             done.addr,
-            done.got.max(done.put),
+            done.len,
+            done.got,
+            done.put,
         );
         assert_eq!(rt; told, row.order[i], "operation {i}");
     }
@@ -293,7 +506,7 @@ fn expect_bus(rt: &impl Abort, trace: &Trace, row: &Row) {
 #[test]
 fn rows(rt: HostRuntime) -> Result<(), Fail> {
     for row in &ROWS {
-        let flips = script(rt.alloc(), row.bits)?;
+        let flips = script(rt.alloc(), row.flips)?;
         assert!(rt; flips.len() <= 65_536);
         assert!(rt; all_aimed(&flips));
         let trace = play(rt.alloc(), &setup(rt.alloc(), &row.program, flips)?)?;
