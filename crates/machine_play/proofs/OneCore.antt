@@ -148,7 +148,7 @@ reader_kept Lost h = absurd cc
 pub value : (initial : ℕ → ℕ) (order : List Op) → IsProgramOrder initial order → FailsNowhereIn (ValueAt initial) order
 value initial order h = nowhere (ValueAt initial) order (λ earlier later r e reader.
     let s = at_split order earlier later r h.numbers e in
-    let kept : Each (λ o. is_lost o ≡ false) earlier = 
+    let kept : Each (λ o. is_lost o ≡ false) earlier =
     kept_before h.kept h.lost earlier later r (sym h.split.split ∙ e) h.split.none_lost h.split.all_lost (reader_kept r.kind reader) in
     let parts : ReadsEach initial (map made earlier ++ (made r ∷ map made later)) =
     subst (λ (es : List Entry). ReadsEach initial es) (ap (map made) e ∙ map-append made earlier (r ∷ later)) h.values in

@@ -161,6 +161,7 @@ shows setup steps Limit arch seen ts order fates h = record {
   bound = h.bound;
   lost = loses Limit h.left h.lost order h.kept h.split h.behind;
 }
+
 ended_ops : (end : CoreEnd) (r : Run) → (ended_run end r).ops ≡ r.ops
 unfolding ended_run
 ended_ops (Halt tt_) r = refl

@@ -141,9 +141,9 @@ one_word : (setup : Setup) (es : List Entry) (e : Entry) (words : List ℕ) (pla
     → HoldsWords setup (es ++ e ∷ []) (set words place value)
 one_word setup es e words place value bytes is h size within low high put =
     words_put setup es e words (set words place value) bytes is h size (length-set words place value) (λ i inside. elim (cases_eq i place) [
-    | inl here ↦ subst (λ (k : ℕ). IsPut e (ram_first + 4 * k) (get_or words k 0) (get_or (set words place value) k 0)) (sym here)
-    (subst (λ (v : ℕ). IsPut e (ram_first + 4 * place) (get_or words place 0) v) (sym (get_or-set_same words place value 0 within)) put)
-    | inr there ↦ inl (get_or-set_other words place i value 0 there, λ j below. other_word e (ram_first + 4 * i) j (beside i there) below)
+      | inl here ↦ subst (λ (k : ℕ). IsPut e (ram_first + 4 * k) (get_or words k 0) (get_or (set words place value) k 0)) (sym here)
+          (subst (λ (v : ℕ). IsPut e (ram_first + 4 * place) (get_or words place 0) v) (sym (get_or-set_same words place value 0 within)) put)
+      | inr there ↦ inl (get_or-set_other words place i value 0 there, λ j below. other_word e (ram_first + 4 * i) j (beside i there) below)
     ])
   where
     beside : (i : ℕ) → (i ≡ place → ⊥) → (ram_first + 4 * i + 4 ≤ e.addr) ⊎ (e.addr + e.len ≤ ram_first + 4 * i)
@@ -160,15 +160,15 @@ two_words setup es e words place bytes is h size within len at fits =
     let first : List ℕ = set words place (e.put / 2 ^ 32) in
     let long : length first ≡ length words = length-set words place (e.put / 2 ^ 32) in
     words_put setup es e words (set first (place + 1) (e.put % 2 ^ 32)) bytes is h size (length-set first (place + 1) (e.put % 2 ^ 32) ∙ long) (λ i inside. elim (cases_eq i (place + 1)) [
-    | inl second ↦ subst (λ (k : ℕ). IsPut e (ram_first + 4 * k) (get_or words k 0) (get_or (set first (place + 1) (e.put % 2 ^ 32)) k 0)) (sym second)
-    (subst (λ (v : ℕ). IsPut e (ram_first + 4 * (place + 1)) (get_or words (place + 1) 0) v) (sym (get_or-set_same first (place + 1) (e.put % 2 ^ 32) 0 (omega (arith, long))))
-    (low_put e (ram_first + 4 * (place + 1)) (get_or words (place + 1) 0) len (omega arith)))
-    | inr no_second ↦ subst (λ (v : ℕ). IsPut e (ram_first + 4 * i) (get_or words i 0) v) (sym (get_or-set_other first (place + 1) i (e.put % 2 ^ 32) 0 no_second)) (elim (cases_eq i place) [
-    | inl here ↦ subst (λ (k : ℕ). IsPut e (ram_first + 4 * k) (get_or words k 0) (get_or first k 0)) (sym here)
-    (subst (λ (v : ℕ). IsPut e (ram_first + 4 * place) (get_or words place 0) v) (sym (get_or-set_same words place (e.put / 2 ^ 32) 0 (omega arith)))
-    (high_put e (ram_first + 4 * place) (get_or words place 0) len at fits))
-    | inr there ↦ inl (get_or-set_other words place i (e.put / 2 ^ 32) 0 there, λ j below. other_word e (ram_first + 4 * i) j (beside i there no_second) below)
-    ])
+      | inl second ↦ subst (λ (k : ℕ). IsPut e (ram_first + 4 * k) (get_or words k 0) (get_or (set first (place + 1) (e.put % 2 ^ 32)) k 0)) (sym second)
+          (subst (λ (v : ℕ). IsPut e (ram_first + 4 * (place + 1)) (get_or words (place + 1) 0) v) (sym (get_or-set_same first (place + 1) (e.put % 2 ^ 32) 0 (omega (arith, long))))
+          (low_put e (ram_first + 4 * (place + 1)) (get_or words (place + 1) 0) len (omega arith)))
+      | inr no_second ↦ subst (λ (v : ℕ). IsPut e (ram_first + 4 * i) (get_or words i 0) v) (sym (get_or-set_other first (place + 1) i (e.put % 2 ^ 32) 0 no_second)) (elim (cases_eq i place) [
+        | inl here ↦ subst (λ (k : ℕ). IsPut e (ram_first + 4 * k) (get_or words k 0) (get_or first k 0)) (sym here)
+            (subst (λ (v : ℕ). IsPut e (ram_first + 4 * place) (get_or words place 0) v) (sym (get_or-set_same words place (e.put / 2 ^ 32) 0 (omega arith)))
+            (high_put e (ram_first + 4 * place) (get_or words place 0) len at fits))
+        | inr there ↦ inl (get_or-set_other words place i (e.put / 2 ^ 32) 0 there, λ j below. other_word e (ram_first + 4 * i) j (beside i there no_second) below)
+      ])
     ])
   where
     beside : (i : ℕ) → (i ≡ place → ⊥) → (i ≡ place + 1 → ⊥) → (ram_first + 4 * i + 4 ≤ e.addr) ⊎ (e.addr + e.len ≤ ram_first + 4 * i)

@@ -149,7 +149,14 @@ const ROWS: [Row; 13] = [
         pc: 0x4000_0010,
         out: &[0],
         register: (8, 0),
-        transfers: &[(2, TurnKind::Load, Why::Absent, WORD, 8, 0x4f00_0000_0000_0000)],
+        transfers: &[(
+            2,
+            TurnKind::Load,
+            Why::Absent,
+            WORD,
+            8,
+            0x4f00_0000_0000_0000,
+        )],
         order: &[(OpKind::Load, 0, 3, WORD, 4, 0, 0)],
         fates: &[Fate::Dormant],
     },
@@ -164,7 +171,14 @@ const ROWS: [Row; 13] = [
         pc: 0x4000_0008,
         out: &[],
         register: (8, 0),
-        transfers: &[(2, TurnKind::Load, Why::Absent, WORD, 8, 0x0500_0000_0000_0000)],
+        transfers: &[(
+            2,
+            TurnKind::Load,
+            Why::Absent,
+            WORD,
+            8,
+            0x0500_0000_0000_0000,
+        )],
         order: &[],
         fates: &[Fate::Stopped, Fate::Stopped],
     },
@@ -490,13 +504,7 @@ fn expect_bus(rt: &impl Abort, trace: &Trace, row: &Row) {
     for i in 0..order.len() {
         let done = order[i];
         let told = (
-            done.kind,
-            done.k,
-            done.step,
-            done.addr,
-            done.len,
-            done.got,
-            done.put,
+            done.kind, done.k, done.step, done.addr, done.len, done.got, done.put,
         );
         assert_eq!(rt; told, row.order[i], "operation {i}");
     }
