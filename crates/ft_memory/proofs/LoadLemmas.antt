@@ -16,7 +16,7 @@ pub record AreLoaded (segments : List Segment) (bytes : List ℕ) : Type 0 where
   pub at : (k : ℕ) → k < length bytes → slice_index bytes k ≡ option_map_or (byte_in (ram_first + k)) (find (covers (ram_first + k)) segments) 0
 
 -- numbers of equal bytes are equal
-number_at-same : (f g : ℕ → ℕ) (a b n : ℕ) → ((i : ℕ) → i < n → f (a + i) ≡ g (b + i)) → number_at f a n ≡ number_at g b n
+pub number_at-same : (f g : ℕ → ℕ) (a b n : ℕ) → ((i : ℕ) → i < n → f (a + i) ≡ g (b + i)) → number_at f a n ≡ number_at g b n
 unfolding number_at
 number_at-same f g a b zero same = refl
 number_at-same f g a b (suc n) same =

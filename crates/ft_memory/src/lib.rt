@@ -17,3 +17,4 @@ mod tests;
 pub use answer::{Fixed, Got};
 pub use ft_cells::Flipped;
 pub use ram::Memory;
+pub use start::{initial_bytes, word_at};

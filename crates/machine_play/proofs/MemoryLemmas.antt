@@ -13,7 +13,7 @@ use Rattle.lf_model.specs.declared.bus.Entry.{Entry}
 use Rattle.lf_model.specs.declared.setup.Setup.{Setup}
 use Rattle.machine_play.specs.Memory.{entry_enters, ReadsEach, byte_after, HoldsWords, HasBytes}
 use Rattle.machine_play.proofs.NumberLemmas.{byte_of_number, number_of_word, number_small}
-use Rattle.machine_play.proofs.StartLemmas.{number_at-same}
+use Rattle.ft_memory.proofs.LoadLemmas.{number_at-same}
 
 pub stored_push : (a : ℕ) (es : List Entry) (e : Entry) (byte : ℕ) → stored a (es ++ e ∷ []) byte ≡ cond (touches a e) (byte_put a e) (stored a es byte)
 stored_push a [] e byte = refl

@@ -5,21 +5,11 @@ use Rattle.std.specs.List.{list_any}
 use Rattle.std.specs.Option.{option_map_or}
 use Rattle.std.proofs.lemmas.Bool.{cases_Bool, and_parts, leb-true, ltb-true}
 use Rattle.std.proofs.lemmas.List.Elements.{All-head, All-tail}
+use Rattle.ft_memory.proofs.LoadLemmas.{number_at-same}
 use Rattle.lf_model.specs.Start.{ram_first, covers, byte_in, initial_byte, number_at, word_at, in_range, is_text_byte, is_text_word, is_in_ram, IsLoadable}
 use Rattle.lf_model.specs.declared.image.Range.{Range}
 use Rattle.lf_model.specs.declared.image.Segment.{Segment}
 use Rattle.lf_model.specs.declared.image.Image.{Image}
-
--- the bytes are those of the segments, 0 elsewhere
-pub record AreLoaded (segments : List Segment) (bytes : List ℕ) : Type 0 where
-  pub at : (k : ℕ) → k < length bytes → slice_index bytes k ≡ option_map_or (byte_in (ram_first + k)) (find (covers (ram_first + k)) segments) 0
-
--- numbers of equal bytes are equal
-pub number_at-same : (f g : ℕ → ℕ) (a b n : ℕ) → ((i : ℕ) → i < n → f (a + i) ≡ g (b + i)) → number_at f a n ≡ number_at g b n
-unfolding number_at
-number_at-same f g a b zero same = refl
-number_at-same f g a b (suc n) same =
-    ap₂ (λ (high low : ℕ). high * 2 ^ 8 + low) (number_at-same f g a b n (λ i lt. same i (omega arith))) (same n (omega arith))
 
 -- a word of the loaded bytes is the image's word
 pub word_loaded : (image : Image) (bytes : List ℕ) (ram place : ℕ) → ((k : ℕ) → k < ram → slice_index bytes k ≡ initial_byte image (ram_first + k))

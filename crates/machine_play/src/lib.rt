@@ -1,7 +1,8 @@
 //! The run of the machine: one core without caches, over coded memory that a script of flips strikes.
 //!
-//! A load takes a turn of the bus that reads its line; the next step takes its word from it. A store makes its turn in its
-//! own step, and fetches make none. What `play` leaves is a trace whose memory order is a total-store-order execution, with
+//! A load takes a turn of the bus that reads its line; the next step takes its number from it. A store or an atomic makes
+//! its turn in its own step, and fetches make none. A byte or half stored to a bad word is lost, and stops the core behind
+//! the store. What `play` leaves is a trace whose memory order is a total-store-order execution, with
 //! the cause of a stop, the transfers as their turns met memory, and the fates of the flips.
 #![tactic(auto)]
 
@@ -14,7 +15,6 @@ mod program;
 mod record;
 mod results;
 mod run;
-mod start;
 mod step;
 #[cfg(test)]
 mod tests;

@@ -2,11 +2,17 @@ ghost use Rattle.std.specs.Prelude.{◌≡◌, ◌<◌, ◌≤◌, ◌+◌, ◌%
 ghost use Rattle.lf_model.specs.Start.{ram_first, initial_byte, is_text_word, touches_text, word_at, IsLoadable};
 ghost use Rattle.machine_play.specs.Memory.{HasBytes};
 
-use crate::start;
+use ft_memory::{initial_bytes, word_at};
 use lf_model::addresses::RAM_FIRST;
 use lf_model::setup::Setup;
 use std::alloc::{AllocError, Global};
 use text_map::TextMap;
+
+/// For contracts alone: the items of a list of bytes are bytes.
+fn are_bytes(_bytes: &[u8])
+    ensures { (k : ℕ) → slice_index _bytes.now k < 256 }
+{
+}
 
 /// The program of a setup, laid out so that each fetch is a search of its text and one read.
 #[derive(Drop)]
@@ -33,8 +39,8 @@ impl<'a> Program<'a> {
         ensures { IfOk result (λ program. program.setup.now ≡ setup.entry.now) }
     {
         let text = TextMap::new(alloc, &setup.image.text)?;
-        let bytes = start::initial_bytes(alloc, setup.config.ram, &setup.image)?;
-        start::are_bytes(&bytes);
+        let bytes = initial_bytes(alloc, setup.config.ram, &setup.image)?;
+        are_bytes(&bytes);
         Ok(Program { setup, text, bytes })
     }
 
@@ -43,7 +49,7 @@ impl<'a> Program<'a> {
         ensures { result ≡ (if is_text_word self.now.setup.now.image.text pc then Some (word_at self.now.setup.now.image pc) else None) }
     {
         if self.text.is_text_word(pc) {
-            Some(start::word_at(&self.bytes, (pc - RAM_FIRST) as usize))
+            Some(word_at(&self.bytes, (pc - RAM_FIRST) as usize))
         } else {
             None
         }
