@@ -11,8 +11,7 @@ use text_map::TextMap;
 /// For contracts alone: the items of a list of bytes are bytes.
 fn are_bytes(_bytes: &[u8])
     ensures { (k : ℕ) → slice_index _bytes.now k < 256 }
-{
-}
+{}
 
 /// The program of a setup, laid out so that each fetch is a search of its text and one read.
 #[derive(Drop)]
