@@ -45,8 +45,8 @@ standing_set {cells} {standing} {count} later place cell s are long more hits kn
 
 -- told fates are as many
 pub length-told : (fate : Fate) (numbers : List ℕ) (fates : List Fate) → length (told fate numbers fates) ≡ length fates
-length-told fate [] fates = refl
-length-told fate (number ∷ numbers) fates = length-set (told fate numbers fates) number fate ∙ length-told fate numbers fates
+length-told outcome [] fates = refl
+length-told outcome (number ∷ numbers) fates = length-set (told outcome numbers fates) number outcome ∙ length-told outcome numbers fates
 
 -- the flips that stand at a place, read from the list
 pub standing_there : (standing : List Standing) (place : ℕ) {now : Standing} → now ≡ slice_index_or standing place now → place < length standing → now ≡ slice_index_or standing place Empty

@@ -33,8 +33,8 @@ at_start room = record { cells = replicate cell_count (fresh 0); standing = repl
 
 -- the fates, where the flips of these numbers get one
 abbrev pub told : Fate → List ℕ → List Fate → List Fate
-told fate [] fates = fates
-told fate (number ∷ numbers) fates = slice_set (told fate numbers fates) number fate
+told outcome [] fates = fates
+told outcome (number ∷ numbers) fates = slice_set (told outcome numbers fates) number outcome
 
 -- a cell is written: each flip that stood in it gets this fate, and none stands in it any more
 abbrev pub rewritten : Fate → Registers → ℕ → ℕ → Registers
