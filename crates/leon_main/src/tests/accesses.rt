@@ -318,10 +318,10 @@ static HANDLED: [Run; 5] = [
             ],
             end: "halt 80 20 20",
             globals: "00000000 40000000 00000000 00000000 00000000 00000003 00000000 00000000",
-            tbr: "40000020",
             pcs: "400000C0 400000C4",
             ..ZERO
         },
+        tbr: "40000020",
         ..QUIET
     },
     // Each size at each address that is no multiple of it traps, and nothing else is done.
@@ -361,10 +361,10 @@ static HANDLED: [Run; 5] = [
             ],
             end: "halt 80 113 113",
             globals: "00000000 40001000 00000000 00000000 00000000 00000000 00000000 0000001A",
-            tbr: "40000070",
             pcs: "40000120 40000124",
             ..ZERO
         },
+        tbr: "40000070",
         ..QUIET
     },
     // LDSTUB and SWAP on text, on the output word and outside RAM trap.
@@ -384,10 +384,10 @@ static HANDLED: [Run; 5] = [
             ],
             end: "halt 80 33 33",
             globals: "00000000 40000000 80000000 00000000 00000000 00000000 00000006 00000000",
-            tbr: "40000090",
             pcs: "400000D0 400000D4",
             ..ZERO
         },
+        tbr: "40000090",
         ..QUIET
     },
     // Loads and stores outside RAM, stores to text, and what is no word at the output word trap.
@@ -411,10 +411,10 @@ static HANDLED: [Run; 5] = [
             end: "halt 80 42 43",
             globals: "00000000 40000000 80000000 00000000 00000000 00000000 00000008 00000000",
             outs: "00000000 30800027 00000000 00000000 00000000 00000000 00000000 00000000",
-            tbr: "40000090",
             pcs: "400000DC 400000E0",
             ..ZERO
         },
+        tbr: "40000090",
         transfers: "1\nt 0 0 38 load absent 40000000 0 0000000000000000",
         order: "1\nL 0 0 39 40000000 30800027 0",
         ..QUIET
@@ -442,10 +442,10 @@ static HANDLED: [Run; 5] = [
             ],
             end: "halt 80 57 57",
             globals: "00000000 40000002 00000000 00000000 00000000 00000001 00000009 00000002",
-            tbr: "40000020",
             pcs: "400000E8 400000EC",
             ..ZERO
         },
+        tbr: "40000020",
         ..QUIET
     },
 ];

@@ -12,11 +12,7 @@ pub struct Row {
     pub out: &'static str,
     pub globals: &'static str,
     pub outs: &'static str,
-    pub locals: &'static str,
-    pub ins: &'static str,
     pub psr: &'static str,
-    pub wim: &'static str,
-    pub tbr: &'static str,
     pub y: &'static str,
     pub pcs: &'static str,
 }
@@ -31,11 +27,7 @@ pub const ZERO: Row = Row {
     out: "-",
     globals: ZEROS,
     outs: ZEROS,
-    locals: ZEROS,
-    ins: ZEROS,
     psr: "F3000080",
-    wim: "00000002",
-    tbr: "00000000",
     y: "00000000",
     pcs: "40000000 40000004",
 };
@@ -44,6 +36,10 @@ pub const ZERO: Row = Row {
 #[derive(Clone, Copy)]
 pub struct Run {
     pub row: Row,
+    pub locals: &'static str,
+    pub ins: &'static str,
+    pub wim: &'static str,
+    pub tbr: &'static str,
     pub script: &'static str,
     pub status: u8,
     pub transfers: &'static str,
@@ -54,6 +50,10 @@ pub struct Run {
 /// A run that touches no memory.
 pub const QUIET: Run = Run {
     row: ZERO,
+    locals: ZEROS,
+    ins: ZEROS,
+    wim: "00000002",
+    tbr: "00000000",
     script: "",
     status: 0,
     transfers: "0",
@@ -166,11 +166,11 @@ fn report(alloc: Global, run: &Run) -> Result<String, AllocError> {
     )?;
     let registers = format!(in alloc;
         "g 0 {}\no 0 {}\nl 0 {}\ni 0 {}\n",
-        row.globals, row.outs, row.locals, row.ins
+        row.globals, row.outs, run.locals, run.ins
     )?;
     let control = format!(in alloc;
         "ctl 0 {} {} {} {} {}\n",
-        row.psr, row.wim, row.tbr, row.y, row.pcs
+        row.psr, run.wim, run.tbr, row.y, row.pcs
     )?;
     let transfers = format!(in alloc;
         "parity 0 0 0 0 0\nahb 00000000 00000000\ntransfers {}\n",
