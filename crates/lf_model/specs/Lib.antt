@@ -25,8 +25,13 @@ pub mod Texts
 pub mod TransferLines
 pub mod Report
 pub mod Step
+pub mod CellAccess
 pub mod Flips
 pub mod Fates
+pub mod Strikes
 pub mod WordHistory
+pub mod RegisterHistory
+pub mod RegisterUse
 pub mod StopCause
+pub mod Blanks
 pub mod FlipFates

@@ -1,7 +1,7 @@
 -- What an instruction comes to in a step of its core, by what the parts of the core answer to it: registers that
 -- read bad, a data cache that misses, and a store buffer that is full or where stores wait. Which error trap an
 -- error gives, and when stores drain, is this machine's own.
-use Rattle.std.specs.Prelude.{ℕ, ◌≡◌, ◌<◌, ◌%◌, ◌==◌, ◌∷◌, [], Bool, true, false, List, slice_index, Option, Some, None, unwrap_or, if◌then◌else◌, Result, Ok, Err}
+use Rattle.std.specs.Prelude.{ℕ, ◌≡◌, ◌<◌, ◌%◌, ◌==◌, ◌∷◌, [], Bool, true, false, List, slice_index, slice_index_or, Option, Some, None, unwrap_or, if◌then◌else◌, Result, Ok, Err}
 use Rattle.std.specs.Option.{option_or}
 use Rattle.lf_model.specs.State.{State, cell}
 use Rattle.lf_model.specs.Operation.{kind_reads}
@@ -28,10 +28,10 @@ pub record Seen : Type 0 where
   pub out : List ℕ
   pub ops : List Entry
 
--- what the parts of a core answer: the syndrome of a register cell that reads bad, a look-up of the data cache at
+-- what the parts of a core answer: of each register cell its syndrome if it reads bad, a look-up of the data cache at
 -- an address and a length, whether the store buffer has no room, and whether a store waits in it
 pub record Parts : Type 0 where
-  pub bad : ℕ → Option ℕ
+  pub bad : List (Option ℕ)
   pub look : ℕ → ℕ → Look
   pub full : Bool
   pub waiting : Bool
@@ -70,8 +70,12 @@ abbrev pub read_by : Option ℕ → List ℕ → ℕ → Result ℕ RegBad
 read_by None cells c = Ok (slice_index cells c)
 read_by (Some syn) cells c = Err (record { cell = c; syn = syn })
 
+-- the syndrome of a cell, if it reads bad
+abbrev pub syndrome_read : Parts → ℕ → Option ℕ
+syndrome_read parts c = slice_index_or parts.bad c None
+
 abbrev pub reading : Parts → List ℕ → ℕ → Result ℕ RegBad
-reading parts cells c = read_by (parts.bad c) cells c
+reading parts cells c = read_by (syndrome_read parts c) cells c
 
 abbrev pub bad_by : Option ℕ → ℕ → Option RegBad
 bad_by None c = None
@@ -79,7 +83,7 @@ bad_by (Some syn) c = Some (record { cell = c; syn = syn })
 
 -- register n of the window, if its cell reads bad; register 0 has none
 abbrev pub bad_register : Parts → ℕ → ℕ → Option RegBad
-bad_register parts window n = if n == 0 then None else bad_by (parts.bad (cell window n)) (cell window n)
+bad_register parts window n = if n == 0 then None else bad_by (syndrome_read parts (cell window n)) (cell window n)
 
 -- the first of these registers that reads bad
 abbrev pub first_bad : Parts → ℕ → List ℕ → Option RegBad

@@ -1,6 +1,7 @@
--- Why an error trap stops a core: as its last transfer met it, a word that the instruction wants had two of its bits
--- turned. Which error trap an error gives is this machine's own.
-use Rattle.std.specs.Prelude.{ℕ, ◌≡◌, ◌≢◌, ◌+◌, ◌-◌, ◌*◌, ◌/◌, ◌%◌, ◌&&◌, not, ⊤, ◌⊎◌, true, false, Bool, List, [], ◌∷◌, map, filter, take, drop, find, Option, Some, None, IfSome, slice_get, option_and_then, if◌then◌else◌}
+-- Why an error trap stops a core: in its last step the instruction read a register cell with two turned bits, or the core's
+-- last transfer met such a word, which a load or an atomic wants, or in which the bytes of a part store lie. Which error trap
+-- an error gives is this machine's own.
+use Rattle.std.specs.Prelude.{ℕ, ◌≡◌, ◌≢◌, ◌+◌, ◌-◌, ◌*◌, ◌/◌, ◌%◌, ◌==◌, ◌<◌, ◌&&◌, not, ⊤, ◌⊎◌, true, false, Bool, List, [], ◌∷◌, map, filter, take, drop, find, Option, Some, None, IfSome, slice_get, option_and_then, if◌then◌else◌}
 use Rattle.std.specs.List.{AllByRecursion, list_any, range_with_len}
 use Rattle.std.specs.Option.{IsSomeAnd}
 use Rattle.lf_model.specs.Operation.{enters}
@@ -10,6 +11,8 @@ use Rattle.lf_model.specs.Execution.{run_of_core}
 use Rattle.lf_model.specs.Places.{FailsNowhere}
 use Rattle.lf_model.specs.TransferLines.{makes_entry, core_stops_at}
 use Rattle.lf_model.specs.Flips.{Moment, is_bad_word, syndrome}
+use Rattle.lf_model.specs.RegisterHistory.{retired_before}
+use Rattle.lf_model.specs.RegisterUse.{retires_in, cell_met, first_bad_read}
 use Rattle.lf_model.specs.WordHistory.{begun, history}
 use Rattle.lf_model.specs.declared.bus.OpKind.{OpKind}
 use Rattle.lf_model.specs.declared.bus.OpKind.TheVariants as kinds
@@ -61,7 +64,7 @@ serves _ _ = false
 abbrev pub lowest_bad : Setup → Trace → ℕ → Access → Option ℕ
 lowest_bad setup trace turn a = find (λ word. is_bad_word (history_met setup trace turn word)) (wanted_words a)
 
--- `data_access_error`, 09: at the transfer of this turn, made in this step for the instruction after n instructions, the
+-- `data_access_exception`, 09: at the transfer of this turn, made in this step for the instruction after n instructions, the
 -- lowest bad word that the instruction wants has this syndrome
 pub record IsDataError (setup : Setup) (trace : Trace) (c n step turn syn : ℕ) : Type 0 where
   pub transfer : IsSomeAnd (slice_get trace.transfers turn) (λ t. (t.master ≡ c) × (t.step ≡ step)
@@ -83,23 +86,55 @@ pub record IsStoreError (setup : Setup) (trace : Trace) (c step turn syn : ℕ) 
   pub bad : is_bad_word (history_met setup trace turn (word_of t)) ≡ true
   pub told : syn ≡ syndrome (history_met setup trace turn (word_of t))
 
--- the cause of an error trap, by its type
-abbrev pub HasErrorCause : Setup → Trace → ℕ → ℕ → ℕ → ℕ → ℕ → ℕ → Type 0
-HasErrorCause setup trace c n step tt_ turn syn = ((tt_ ≡ 0x09) × IsDataError setup trace c n step turn syn)
-    ⊎ ((tt_ ≡ 0x2B) × IsSomeAnd (slice_get trace.transfers turn) (IsStoreError setup trace c step turn syn))
-
 -- no transfer of core c comes after this turn
 abbrev pub IsLastOf : ℕ → List Transfer → ℕ → Type 0
 IsLastOf c transfers turn = AllByRecursion (λ t. t.master ≢ c) (drop (turn + 1) transfers)
 
--- the cause of a core's end. Of the error traps 09 and 2B come so far, at the core's last transfer, in its last step.
+-- the cause of an error trap that a word of memory gives, at the core's last transfer
+abbrev pub HasWordCause : Setup → Trace → ℕ → ℕ → ℕ → ℕ → ℕ → ℕ → Type 0
+HasWordCause setup trace c n step tt_ turn syn = (((tt_ ≡ 0x09) × IsDataError setup trace c n step turn syn)
+    ⊎ ((tt_ ≡ 0x2B) × IsSomeAnd (slice_get trace.transfers turn) (IsStoreError setup trace c step turn syn)))
+    × IsLastOf c trace.transfers turn
+
+-- `r_register_access_error`, 20: the first bad register cell that is read in this step is this one, with this syndrome
+pub record IsRegisterError (setup : Setup) (trace : Trace) (c : ℕ) (r : CoreResult) (step place syn : ℕ) : Type 0 where
+  pub made : step < r.steps
+  pub first : first_bad_read setup trace c r step ≡ Some place
+  pub told : syn ≡ syndrome (cell_met setup trace c r step place)
+
+-- the cause of a core's end. Of the error traps 20, 09 and 2B come so far, in its last step.
 abbrev pub HasCause : Setup → Trace → ℕ → CoreResult → CoreEnd → Type 0
-HasCause setup trace c r (Stop tt_ place syn) = HasErrorCause setup trace c r.n (r.steps - 1) tt_ place syn × IsLastOf c trace.transfers place
+HasCause setup trace c r (Stop tt_ place syn) = ((tt_ ≡ 0x20) × IsRegisterError setup trace c r (r.steps - 1) place syn)
+    ⊎ HasWordCause setup trace c r.n (r.steps - 1) tt_ place syn
 HasCause setup trace c r _ = ⊤
 
 abbrev pub StopCauseAt : Setup → Trace → ℕ → Type 0
 StopCauseAt setup trace c = IfSome (slice_get trace.cores c) (λ r. HasCause setup trace c r r.end)
 
--- a core is stopped by an error trap only where a word with two turned bits was met
+-- a core is stopped by an error trap only where a word or a register cell with two turned bits was met
 abbrev pub StopCause : Setup → Trace → Type 0
 StopCause setup trace = FailsNowhere setup.config.cores (StopCauseAt setup trace)
+
+-- ---- a bad register cell stops the core that reads it
+
+-- the register cell that an end names
+abbrev pub cell_of_end : CoreEnd → Option ℕ
+cell_of_end (Stop tt_ place syn) = if tt_ == 0x20 then Some place else None
+cell_of_end _ = None
+
+-- the cell that the stop of a core names in this step, its last one
+abbrev pub cell_stopped : CoreResult → ℕ → Option ℕ
+cell_stopped r step = if step + 1 == r.steps then cell_of_end r.end else None
+
+-- what the steps of core c read: as many of them retire as instructions were made, and one reads a bad register cell exactly
+-- where it is the last of a core that stops by 20, of which the stop names the first
+pub record HasRegisterStops (setup : Setup) (trace : Trace) (c : ℕ) (r : CoreResult) : Type 0 where
+  pub retired : retired_before (retires_in trace c r) r.steps ≡ r.n
+  pub stops : (step : ℕ) → step < r.steps → first_bad_read setup trace c r step ≡ cell_stopped r step
+
+abbrev pub RegisterStopAt : Setup → Trace → ℕ → Type 0
+RegisterStopAt setup trace c = IfSome (slice_get trace.cores c) (HasRegisterStops setup trace c)
+
+-- of each core
+abbrev pub RegisterStops : Setup → Trace → Type 0
+RegisterStops setup trace = FailsNowhere setup.config.cores (RegisterStopAt setup trace)

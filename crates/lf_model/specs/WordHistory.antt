@@ -1,35 +1,18 @@
 -- The history of a memory word: flips of the script strike it as turns of the bus begin, and transfers write it.
-use Rattle.std.specs.Prelude.{ℕ, ◌+◌, ◌==◌, ◌&&◌, nat_lt, Bool, List, [], ◌∷◌, length, Option, Some, None, fold, if◌then◌else◌}
-use Rattle.std.specs.List.{list_any, filter_map, range_with_len, zip}
+use Rattle.std.specs.Prelude.{ℕ, ◌+◌, ◌==◌, ◌&&◌, nat_lt, Bool, List, [], ◌∷◌, Option, Some, None, if◌then◌else◌}
+use Rattle.std.specs.List.{list_any}
 use Rattle.lf_model.specs.Flips.{How, Moment, is_bad_word, is_fixed_word}
 use Rattle.lf_model.specs.Flips.How.{Whole, ByPartStore, ByAtomic, ByFix}
-use Rattle.lf_model.specs.Flips.Moment.{Struck, Written, Named}
+use Rattle.lf_model.specs.Flips.Moment.{Written, Named}
+use Rattle.lf_model.specs.Strikes.{memory_aim, struck_at}
 use Rattle.lf_model.specs.declared.bus.Transfer.{Transfer}
 use Rattle.lf_model.specs.declared.bus.TurnKind.{TurnKind}
 use Rattle.lf_model.specs.declared.bus.TurnKind.TheVariants.{Store, Atomic, Fix}
 use Rattle.lf_model.specs.declared.flip.Flip.{Flip}
-use Rattle.lf_model.specs.declared.flip.Flip.TheVariants.{Mem}
-
--- the moment that a numbered flip makes for a word as a turn begins, if it is a flip of that word for that turn
-abbrev pub strike_at : ℕ → ℕ → ℕ × Flip → Option Moment
-strike_at turn word (number, Mem at addr bit) = if at == turn && addr == word then Some (Struck number bit) else None
-strike_at turn word (number, _) = None
-
--- the flips of the script with their numbers, from 0
-abbrev pub numbered_flips : List Flip → List (ℕ × Flip)
-numbered_flips script = zip (range_with_len 0 (length script)) script
-
--- the moments of a word as a turn begins, in the order of the script
-abbrev pub strikes_at : List Flip → ℕ → ℕ → List Moment
-strikes_at script turn word = filter_map (strike_at turn word) (numbered_flips script)
-
--- the history with these moments, which come one after another
-abbrev pub after_moments : List Moment → List Moment → List Moment
-after_moments moments h = fold (λ earlier moment. moment ∷ earlier) h moments
 
 -- the history of a word once a turn has begun
 abbrev pub begun : List Flip → ℕ → ℕ → List Moment → List Moment
-begun script word turn h = after_moments (strikes_at script turn word) h
+begun script word turn h = struck_at memory_aim script turn word h
 
 -- a transfer touches the word at this address
 abbrev pub touches_word : Transfer → ℕ → Bool
