@@ -1,30 +1,37 @@
 -- A line of a script of bit flips, as the list of its fields: the faults that it may have, and the flip that it spells.
-use Rattle.std.specs.Prelude.{ℕ, ◌≡◌, ◌^◌, ◌%◌, ◌<◌, Bool, true, nat_le, if◌then◌else◌, List, [], ◌∷◌, Option, Some, None, is_none, option_and_then, codes}
+use Rattle.std.specs.Prelude.{ℕ, ◌≡◌, ◌^◌, ◌%◌, ◌<◌, Bool, true, nat_le, if◌then◌else◌, List, [], ◌∷◌, find, Option, Some, None, is_none, option_map, option_and_then, codes}
 use Rattle.std.specs.Option.{option_map_or}
 use Rattle.std.specs.Str.{bytes_eq}
 use Rattle.lf_model.specs.Start.{is_in_ram}
 use Rattle.lf_model.specs.declared.config.Config.{Config}
 use Rattle.lf_model.specs.declared.flip.Flip.{Flip}
-use Rattle.lf_model.specs.declared.flip.Flip.TheVariants.{Mem}
+use Rattle.lf_model.specs.declared.flip.Flip.TheVariants.{Mem, Reg}
 use Rattle.run_texts.specs.declared.error.TextWhy.{TextWhy}
 use Rattle.run_texts.specs.declared.error.TextWhy.TheVariants.{Word, Many}
 use Rattle.run_texts.specs.declared.flip_line.FlipKind.{FlipKind}
-use Rattle.run_texts.specs.declared.flip_line.FlipKind.TheVariants.{MemoryWord}
+use Rattle.run_texts.specs.declared.flip_line.FlipKind.TheVariants.{MemoryWord, RegisterCell}
 use Rattle.run_texts.specs.Text.{is_comment}
 use Rattle.run_texts.specs.Columns.{Column, below, word_of_ram, field_faults, first_fault, values}
 
+-- the kinds of flips, each behind the first field that names it
+abbrev pub kinds : List (List ℕ × FlipKind)
+kinds = (codes "mem", MemoryWord) ∷ (codes "reg", RegisterCell) ∷ []
+
 -- the kind of flip that a first field names, None where the field is unknown
 unfoldable pub kind_of : List ℕ → Option FlipKind
-kind_of first = if bytes_eq first (codes "mem") then Some MemoryWord else None
+kind_of first = option_map (λ row. row.1) (find (λ row. bytes_eq first row.0) kinds)
 
--- The columns behind the first field. A memory word is struck at a turn of the bus, by its address, in a bit of its cell.
+-- The columns behind the first field. A memory word is struck at a turn of the bus, by its address, in a bit of its cell;
+-- a register cell of a core at a step of that core, by the cell's number, in a bit of it.
 abbrev pub columns : Config → FlipKind → List Column
 columns config MemoryWord = below (2 ^ 32) ∷ word_of_ram config.ram ∷ below 39 ∷ []
+columns config RegisterCell = below config.cores ∷ below config.steps ∷ below 136 ∷ below 39 ∷ []
 
 -- the flip of a kind with the values of its columns, None where they are too few or too many
 abbrev pub flip_with : FlipKind → List ℕ → Option Flip
 flip_with MemoryWord (turn ∷ addr ∷ bit ∷ []) = Some (Mem turn addr bit)
-flip_with MemoryWord _ = None
+flip_with RegisterCell (core ∷ step ∷ cell ∷ bit ∷ []) = Some (Reg core step cell bit)
+flip_with _ _ = None
 
 -- the most flips that a script may have
 abbrev pub most_flips : ℕ
@@ -51,8 +58,10 @@ flip_of config (first ∷ others) =
     if is_comment first then None
     else option_and_then (λ kind. flip_with kind (values (columns config kind) others)) (kind_of first)
 
--- a flip is of a bit that the machine of this configuration has; only memory words are struck so far
+-- A flip is of a bit that the machine of this configuration has, and of a step that its core may make. Only memory words
+-- and register cells are struck so far.
 abbrev pub IsOfMachine : Config → Flip → Type 0
 IsOfMachine config (Mem turn addr bit) =
     (turn < 2 ^ 32) × (addr % 4 ≡ 0) × (is_in_ram config.ram addr 4 ≡ true) × (bit < 39)
+IsOfMachine config (Reg core step cell bit) = (core < config.cores) × (step < config.steps) × (cell < 136) × (bit < 39)
 IsOfMachine config _ = ⊥

@@ -1,5 +1,5 @@
 ghost use Rattle.std.specs.Prelude.{◌≡◌};
-ghost use Rattle.run_texts.specs.declared.flip_line.FlipKind.TheVariants.{MemoryWord};
+ghost use Rattle.run_texts.specs.declared.flip_line.FlipKind.TheVariants.{MemoryWord, RegisterCell};
 ghost use Rattle.run_texts.specs.Text.{fields};
 ghost use Rattle.run_texts.specs.Columns.{word_of_ram};
 ghost use Rattle.run_texts.specs.FlipLine.{kind_of};
@@ -15,7 +15,10 @@ use lf_model::flip::Flip;
 /// The most flips that a script may have.
 const MOST_FLIPS: usize = 65_536;
 
-/// The bits of the cell of a memory word: 32 of data and 7 check bits.
+/// The register cells of a core.
+const REGISTER_CELLS: u64 = 136;
+
+/// The bits of the cell of a memory word or a register: 32 of data and 7 check bits.
 const CELL_BITS: u64 = 39;
 
 /// What a line of script strikes.
@@ -23,6 +26,8 @@ const CELL_BITS: u64 = 39;
 pub enum FlipKind {
     /// A word of memory: `mem TURN ADDR BIT`.
     MemoryWord,
+    /// A register cell of a core: `reg CORE STEP CELL BIT`.
+    RegisterCell,
 }
 
 impl FlipKind {
@@ -31,10 +36,10 @@ impl FlipKind {
     fn from_word(word: &[u8]) -> Option<FlipKind>
         ensures { result ≡ kind_of word.now }
     {
-        if word == b"mem".as_slice() {
-            Some(FlipKind::MemoryWord)
-        } else {
-            None
+        match word {
+            b"mem" => Some(FlipKind::MemoryWord),
+            b"reg" => Some(FlipKind::RegisterCell),
+            _ => None,
         }
     }
 
@@ -44,6 +49,7 @@ impl FlipKind {
     {
         match self {
             FlipKind::MemoryWord => memory_flip(fields, config),
+            FlipKind::RegisterCell => register_flip(fields, config),
         }
     }
 }
@@ -74,6 +80,36 @@ fn memory_flip(mut fields: Fields, config: &Config) -> Result<Flip, TextWhy>
     Ok(Flip::Mem {
         turn: turn as u32,
         addr,
+        bit: bit as u8,
+    })
+}
+
+/// The flip of a register cell that the fields behind `reg` spell, or else their first fault.
+fn register_flip(mut fields: Fields, config: &Config) -> Result<Flip, TextWhy>
+    ensures { IsFlipOrFault config.now RegisterCell fields.entry result }
+{
+    let core = fields.next().ok_or(TextWhy::Count)?;
+    let step = fields.next().ok_or(TextWhy::Count)?;
+    let cell = fields.next().ok_or(TextWhy::Count)?;
+    let bit = fields.next().ok_or(TextWhy::Count)?;
+    if fields.next().is_some() {
+        return Err(TextWhy::Count);
+    }
+    let core = decimal(core).ok_or(TextWhy::Number)?;
+    let step = decimal(step).ok_or(TextWhy::Number)?;
+    let cell = decimal(cell).ok_or(TextWhy::Number)?;
+    let bit = decimal(bit).ok_or(TextWhy::Number)?;
+    if core >= u64::from(config.cores)
+        || step >= u64::from(config.steps)
+        || cell >= REGISTER_CELLS
+        || bit >= CELL_BITS
+    {
+        return Err(TextWhy::Range);
+    }
+    Ok(Flip::Reg {
+        core: core as u32,
+        step: step as u32,
+        cell: cell as u8,
         bit: bit as u8,
     })
 }

@@ -6,11 +6,13 @@
 //! another kind at the first key of that table. Today there is one core, the scrubber makes no turns, and no words are
 //! watched.
 //!
-//! A script has a line `mem TURN ADDR BIT` for each flip of a memory word: bit BIT, below 39, of the cell of the word
-//! at ADDR turns as turn TURN of the bus begins. Of a schedule no line is known so far. Lines end with a line feed or
-//! with a carriage return and a line feed, and the last may lack it. Fields are separated by spaces and tabs, which are
-//! ignored at a line's ends. Empty lines and lines whose first field begins with `#` are passed over. A number is 1 to
-//! 10 decimal digits, an address 8 hexadecimal digits of either case.
+//! A script has a line for each flip. At `mem TURN ADDR BIT` bit BIT, below 39, of the cell of the word at ADDR turns as
+//! turn TURN of the bus begins. At `reg CORE STEP CELL BIT` bit BIT, below 39, of register cell CELL, below 136, of core
+//! CORE turns as step STEP of that core begins; CORE is below the number of cores, and STEP below the steps that each
+//! may make. Of a schedule no line is known so far. Lines end with a line feed or with a carriage return and a line
+//! feed, and the last may lack it. Fields are separated by spaces and tabs, which are ignored at a line's ends. Empty
+//! lines and lines whose first field begins with `#` are passed over. A number is 1 to 10 decimal digits, an address 8
+//! hexadecimal digits of either case.
 //!
 //! `specs/Keys.antt` is the table of the keys of a configuration, `specs/Document.antt` says what a document has at
 //! them, and `specs/Configuration.antt` what is answered to a text. `specs/Text.antt` says what the lines of a text
