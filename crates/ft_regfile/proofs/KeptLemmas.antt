@@ -1,10 +1,10 @@
 -- How a register file stays kept, as its cells are written and flips strike them.
-use Rattle.std.proofs.Common.{◌≡◌, ℕ, zero, suc, ◌+◌, ◌-◌, ◌<◌, ◌≤◌, List, [], ◌∷◌, ◌++◌, length, map, slice_index_or, slice_set, Vec, Global, vec_capacity, refl, sym, ap, ◌∙◌, arith, inl, inr}
+use Rattle.std.proofs.Common.{◌≡◌, ℕ, zero, suc, ◌+◌, ◌-◌, ◌^◌, ◌<◌, ◌≤◌, List, [], ◌∷◌, ◌++◌, length, map, slice_index_or, slice_set, Vec, Global, vec_capacity, refl, sym, ap, ◌∙◌, arith, inl, inr}
 use Rattle.std.specs.Prelude.{All, replicate}
 use Rattle.std.specs.Vec.{with_item}
 use Rattle.std.proofs.lemmas.List.Elements.{All-cons}
 use Rattle.std.proofs.lemmas.Bool.{cases_eq}
-use Rattle.std.proofs.lemmas.List.{get_or-set_same, get_or-set_other, get_or_default, get_or-replicate, length-replicate, length-set, length-append, map-set, set-get_or}
+use Rattle.std.proofs.lemmas.List.{get_or-set_same, get_or-set_other, get_or_default, get_or-replicate, length-replicate, length-set, length-append, map-set}
 use Rattle.lf_model.specs.declared.trace.Fate.{Fate}
 use Rattle.lf_model.specs.declared.trace.Fate.TheVariants.{Dormant}
 use Rattle.ft_cells.specs.WordCells.{CellState, fresh, flipped}
@@ -106,12 +106,13 @@ kept_struck file cell bit new s fates {was} {now} {number} kept lt room cell_is 
       flips = standing_set (length fates.items) cell new s kept.flips same (omega (arith, long)) hits known;
       most = omega (arith, long, room);
       reserved = omega (arith, kept.reserved, reserved);
+      numbers = kept.numbers;
     }
 
 -- a file at its start
 pub kept_start : (file : Inside) → file.cells.items ≡ replicate cell_count (fresh 0) → file.standing.items ≡ replicate cell_count Empty → file.fates.items ≡ [] → file.most ≤ vec_capacity file.fates
-    → IsKept file
-kept_start file cells standing none reserved = record {
+    → file.most < 2 ^ 32 → IsKept file
+kept_start file cells standing none reserved fits = record {
   cells = ap (length {A = CellState}) cells ∙ length-replicate cell_count (fresh 0);
   standing = ap (length {A = Standing}) standing ∙ length-replicate cell_count Empty;
   flips = rw (cells, standing, none) (record {
@@ -124,4 +125,5 @@ kept_start file cells standing none reserved = record {
   });
   most = rw none (omega arith);
   reserved = reserved;
+  numbers = fits;
 }

@@ -1,5 +1,5 @@
 -- How a register file is kept.
-use Rattle.std.specs.Prelude.{◌≡◌, ℕ, ◌-◌, ◌<◌, ◌≤◌, List, [], ◌∷◌, length, map, All, vec_capacity, slice_index_or}
+use Rattle.std.specs.Prelude.{◌≡◌, ℕ, ◌-◌, ◌^◌, ◌<◌, ◌≤◌, List, [], ◌∷◌, length, map, All, vec_capacity, slice_index_or}
 use Rattle.ft_cells.specs.WordCells.{CellState, fresh}
 use Rattle.ft_regfile.specs.Registers.{Registers, cell_count}
 use Rattle.ft_regfile.specs.declared.standing.Standing.{Standing}
@@ -34,3 +34,5 @@ pub record IsKept (file : Inside) : Type 0 where
   -- room for the fates of all flips is reserved
   pub most : length file.fates.items ≤ file.most
   pub reserved : file.most ≤ vec_capacity file.fates
+  -- and their numbers fit
+  pub numbers : file.most < 2 ^ 32

@@ -151,6 +151,13 @@ impl RegFile {
         }
     }
 
+    /// How many flips were applied so far.
+    pub fn applied(&self) -> u32
+        ensures { result ≡ length self.now.fates }
+    {
+        self.fates.len() as u32
+    }
+
     /// What became of applied flip `i`, from 0: repaired where its cell's first write since was a read's write-back,
     /// overwritten where it was another, dormant where there was none.
     pub fn fate(&self, i: u32) -> Fate

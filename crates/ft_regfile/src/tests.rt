@@ -153,5 +153,6 @@ fn values_flips_and_fates(rt: HostRuntime) -> Result<(), Fail> {
     for i in 0..11u32 {
         assert_eq!(rt; file.fate(i), FATES[i as usize], "flip {i}");
     }
+    assert_eq!(rt; file.applied(), 11);
     Ok(())
 }
