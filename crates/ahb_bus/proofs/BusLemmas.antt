@@ -11,8 +11,9 @@ use Rattle.lf_model.specs.Start.{ram_first, is_in_ram}
 use Rattle.lf_model.specs.declared.bus.Line.{Line}
 use Rattle.ft_memory.specs.Cells.{CellState, fresh, is_bad, shown_word, syndrome_of}
 use Rattle.ft_memory.specs.Memory.{ram_of, place_of, cell_at, line_at}
+use Rattle.flip_plan.specs.Cells.{IsCellOf}
 use Rattle.ahb_bus.specs.BusState.{BusState, word_of, met, shown, ShowsWord, ShowsLine}
-use Rattle.ahb_bus.specs.Cells.{values, IsCellOf, AreCellsOf}
+use Rattle.ahb_bus.specs.Cells.{values, AreCellsOf}
 
 -- the word of a cell
 pub value_at : (cells : List CellState) (place : ℕ) → slice_index (values cells) place ≡ (slice_index_or cells place (fresh 0)).value

@@ -1,23 +1,17 @@
 -- Histories of words, as a turn begins and as its transfer is made.
-use Rattle.std.proofs.Common.{◌≡◌, ℕ, suc, ◌+◌, ◌%◌, ◌<◌, ◌≤◌, Bool, true, false, ◌&&◌, ◌||◌, cond, nat_eq, nat_lt, List, [], ◌∷◌, ◌++◌, length, refl, sym, ap, ◌∙◌, zero-add, add-zero, arith, Some, None, inl, inr}
-use Rattle.std.specs.Prelude.{filter}
-use Rattle.std.specs.List.{filter_map, range_with_len, zip, cons_option}
+use Rattle.std.proofs.Common.{◌≡◌, ℕ, suc, ◌+◌, ◌%◌, ◌<◌, ◌≤◌, Bool, true, false, ◌||◌, cond, nat_eq, nat_lt, List, [], ◌∷◌, ◌++◌, length, refl, sym, ap, ◌∙◌, zero-add, add-zero, arith, Some, None, inl, inr}
 use Rattle.std.proofs.lemmas.Bool.{false≢true, le-ltb, lt-ltb, eq-eqb, ne_eqb, and_left, and_right, and_from, cases_order, cases_eq}
 use Rattle.std.proofs.lemmas.Bool.Decides.{nat_tests}
 use Rattle.lf_model.specs.Flips.{How, Moment}
 use Rattle.lf_model.specs.Flips.How.{Whole}
-use Rattle.lf_model.specs.Flips.Moment.{Struck, Written}
-use Rattle.lf_model.specs.WordHistory.{begun, history, history_from, after_transfer, after_moments, strike_at, touches_word, write_by, with_write}
+use Rattle.lf_model.specs.Flips.Moment.{Written}
+use Rattle.lf_model.specs.WordHistory.{begun, history, history_from, after_transfer, touches_word, write_by, with_write}
 use Rattle.lf_model.specs.declared.bus.Transfer.{Transfer}
 use Rattle.lf_model.specs.declared.bus.TurnKind.{TurnKind}
 use Rattle.lf_model.specs.declared.bus.TurnKind.TheVariants.{Fetch, Load, Store, Atomic, Snoop, Look, Fix}
 use Rattle.lf_model.specs.declared.flip.Flip.{Flip}
-use Rattle.lf_model.specs.declared.flip.Flip.TheVariants.{Mem, Reg, Tag, Line}
 use Rattle.ft_memory.specs.Parts.{word_address}
 use Rattle.ahb_bus.specs.BusState.{BusState, met, is_fill, after_turn}
-use Rattle.ahb_bus.specs.Plan.{strikes_from}
-use Rattle.ahb_bus.specs.Striking.{struck_by, after_run}
-use Rattle.ahb_bus.specs.declared.plan.Strike.{Strike}
 
 -- a history goes on by one more transfer
 history_from-more : (script : List Flip) (word turn : ℕ) (h : List Moment) (ts : List Transfer) (t : Transfer)
@@ -134,28 +128,3 @@ unfolding met
 met-begun bus word not_begun =
     let h = history bus.flips [] word bus.transfers in
     ap (λ (b : Bool). begun bus.flips word (length bus.transfers) (cond b (begun bus.flips word (length bus.transfers) h) h)) (sym not_begun)
-
--- a run of strikes makes the moments of the script's flips of its turn
-one_strike : (b : Bool) (s : Strike) (rest : List Strike) (moments : List Moment) (word : ℕ) (h : ℕ → List Moment)
-    → ((h : ℕ → List Moment) → after_run rest h word ≡ after_moments moments (h word))
-    → after_run (cond b (s ∷ rest) rest) h word ≡ after_moments (cons_option (cond (b && nat_eq s.word word) (Some (Struck s.number s.bit)) None) moments) (h word)
-one_strike false s rest moments word h later = later h
-one_strike true s rest moments word h later = later (struck_by s h) ∙ inner (nat_eq s.word word)
-  where
-    inner : (b : Bool) → after_moments moments (cond b (Struck s.number s.bit ∷ h word) (h word)) ≡ after_moments (cons_option (cond b (Some (Struck s.number s.bit)) None) moments) (h word)
-    inner true = refl
-    inner false = refl
-
-run_moments : (turn number : ℕ) (flips : List Flip) (word : ℕ) (h : ℕ → List Moment)
-    → after_run (filter (λ (s : Strike). nat_eq s.turn turn) (strikes_from number flips)) h word ≡ after_moments (filter_map (strike_at turn word) (zip (range_with_len number (length flips)) flips)) (h word)
-run_moments turn number [] word h = refl
-run_moments turn number (Mem at addr bit ∷ flips) word h =
-    one_strike (nat_eq at turn) (record { turn = at; word = addr; bit = bit; number = number }) (filter (λ (s : Strike). nat_eq s.turn turn) (strikes_from (number + 1) flips))
-    (filter_map (strike_at turn word) (zip (range_with_len (number + 1) (length flips)) flips)) word h (λ (h' : ℕ → List Moment). run_moments turn (number + 1) flips word h')
-run_moments turn number (Reg core step cell bit ∷ flips) word h = run_moments turn (number + 1) flips word h
-run_moments turn number (Tag core step fetch way set byte bit ∷ flips) word h = run_moments turn (number + 1) flips word h
-run_moments turn number (Line core step fetch way set byte bit ∷ flips) word h = run_moments turn (number + 1) flips word h
-
-pub run_begun : (turn : ℕ) (flips : List Flip) (word : ℕ) (h : ℕ → List Moment)
-    → after_run (filter (λ (s : Strike). nat_eq s.turn turn) (strikes_from 0 flips)) h word ≡ begun flips word turn (h word)
-run_begun turn flips word h = run_moments turn 0 flips word h

@@ -9,6 +9,7 @@ use Rattle.lf_model.specs.Flips.How.{Whole}
 use Rattle.lf_model.specs.Fates.{happened, is_applied}
 use Rattle.lf_model.specs.Start.{ram_first, is_in_ram, word_at}
 use Rattle.lf_model.specs.declared.image.Image.{Image}
+use Rattle.lf_model.specs.Strikes.{memory_aim}
 use Rattle.lf_model.specs.WordHistory.{begun, history, touches_word, write_by, with_write}
 use Rattle.lf_model.specs.declared.bus.Transfer.{Transfer}
 use Rattle.lf_model.specs.declared.bus.TurnKind.TheVariants.{Store}
@@ -17,18 +18,20 @@ use Rattle.lf_model.specs.declared.trace.Fate.TheVariants.{Late}
 use Rattle.ft_memory.specs.Cells.{CellState, fresh}
 use Rattle.ft_memory.specs.Memory.{ram_of, place_of, HoldsImage}
 use Rattle.ft_memory.specs.Parts.{word_address}
+use Rattle.flip_plan.specs.Plan.{IsCursor, IsPlan, strikes_from}
+use Rattle.flip_plan.specs.Striking.{after_run, marked}
+use Rattle.flip_plan.specs.Telling.{TellSame, TellAll}
+use Rattle.flip_plan.specs.declared.plan.Strike.{Strike}
+use Rattle.flip_plan.proofs.CellLemmas.{cell_fresh}
+use Rattle.flip_plan.proofs.HistoryLemmas.{run_begun}
+use Rattle.flip_plan.proofs.TellLemmas.{tells_later, tells_settled, tells_turn, tells_first}
 use Rattle.ahb_bus.specs.BusState.{BusState, met, is_fill, after_turn, AimsInRam}
 use Rattle.ahb_bus.specs.Cells.{values, AreCellsOf}
 use Rattle.ahb_bus.specs.Inside.{seen, turns_struck, IsBus}
-use Rattle.ahb_bus.specs.Plan.{IsCursor, IsPlan, strikes_from}
-use Rattle.ahb_bus.specs.Striking.{after_run, marked}
-use Rattle.ahb_bus.specs.Telling.{TellSame, TellAll}
 use Rattle.ahb_bus.specs.declared.bus.Bus.TheInside.{Inside}
 use Rattle.ahb_bus.specs.declared.held.Held.{Held}
-use Rattle.ahb_bus.specs.declared.plan.Strike.{Strike}
-use Rattle.ahb_bus.proofs.CellLemmas.{cell_fresh, cells_written, cells_same}
-use Rattle.ahb_bus.proofs.HistoryLemmas.{written_at, touches-one, met-after, met-filled, met-written, met-refused, met-doubled, met-begun, run_begun}
-use Rattle.ahb_bus.proofs.TellLemmas.{tells_later, tells_settled, tells_turn, tells_first}
+use Rattle.ahb_bus.proofs.CellLemmas.{cells_written, cells_same}
+use Rattle.ahb_bus.proofs.HistoryLemmas.{written_at, touches-one, met-after, met-filled, met-written, met-refused, met-doubled, met-begun}
 
 -- the address of a place of RAM
 place_in_ram : (ram count place : ℕ) → 4 * count ≡ ram → place < count → IsTrue (is_in_ram ram (ram_first + 4 * place) 4)
@@ -87,11 +90,11 @@ bus_after old memory held fates transfers made is started noted room ram cells s
       cursor = let P : ℕ → Type 0 = λ turn. IsCursor old.plan.items old.next turn in subst P (sym turns) is.cursor;
       cells = cells_same (met (after_turn (seen old) made)) (met (seen new)) memory (λ place lt. later (ram_first + 4 * place)) cells;
       fates =
-          let P : ℕ → Type 0 = λ turn. TellAll old.flips.value (met (seen new)) turn 0 fates.items in
+          let P : ℕ → Type 0 = λ turn. TellAll memory_aim old.flips.value (met (seen new)) turn 0 fates.items in
           subst P (sym turns)
-          (tells_later old.flips.value (met (seen old)) (met (seen new)) (turns_struck old) 0 fates.items
+          (tells_later memory_aim old.flips.value (met (seen old)) (met (seen new)) (turns_struck old) 0 fates.items
           (λ number addr. ap (happened (is_applied word_budget number)) (later addr) ∙ applied_after (seen old) made number addr started)
-          (tells_settled old.flips.value (met (seen old)) (turns_struck old) 0 old.fates.items fates.items same is.fates));
+          (tells_settled memory_aim old.flips.value (met (seen old)) (turns_struck old) 0 old.fates.items fates.items same is.fates));
     }
 
 -- the word that an address of RAM lies in
@@ -169,14 +172,14 @@ met_started bus after word not_begun flips started transfers = rw (started, flip
 
 pub bus_begun : (old : Inside) (memory : List CellState) (held : Vec Held Global) (fates : Vec Fate Global) (next : ℕ) (run : List Strike)
     → IsBus old → old.begun ≡ false → length old.transfers.items < old.most → next ≤ vec_len old.plan
-    → run ≡ filter (λ (s : Strike). nat_eq s.turn (length old.transfers.items)) old.plan.items
+    → run ≡ filter (λ (s : Strike). nat_eq s.at (length old.transfers.items)) old.plan.items
     → IsCursor old.plan.items next (length old.transfers.items + 1) → values memory ≡ values old.memory
     → AreCellsOf (after_run run (met (seen old))) memory → fates.items ≡ marked run (met (seen old)) old.fates.items
     → IsBus (record old { memory = memory; held = held; fates = fates; next = next; begun = true })
 bus_begun old memory held fates next run is not_begun room within is_run cursor words cells told =
     let new : Inside = record old { memory = memory; held = held; fates = fates; next = next; begun = true } in
     let turn : ℕ = length old.transfers.items in
-    let strikes : List Strike = filter (λ (s : Strike). nat_eq s.turn turn) (strikes_from 0 old.flips.value) in
+    let strikes : List Strike = filter (λ (s : Strike). nat_eq s.at turn) (strikes_from memory_aim 0 old.flips.value) in
     let same_run : run ≡ strikes = is_run ∙ is.plan.runs turn in
     let turns : turns_struck old ≡ turn = turns_idle old not_begun in
     let size : ram_of memory ≡ ram_of old.memory =
@@ -184,7 +187,7 @@ bus_begun old memory held fates next run is not_begun room within is_run cursor 
     let later : (word : ℕ) → met (seen new) word ≡ after_run run (met (seen old)) word = λ word.
     met_started (seen old) (seen new) word not_begun refl refl refl
     ∙ met-begun (seen old) word not_begun
-    ∙ sym (run_begun turn old.flips.value word (met (seen old)))
+    ∙ sym (run_begun memory_aim turn old.flips.value word (met (seen old)))
     ∙ ap (λ (r : List Strike). after_run r (met (seen old)) word) (sym same_run) in
     record {
       most = is.most;
@@ -196,12 +199,12 @@ bus_begun old memory held fates next run is not_begun room within is_run cursor 
       cursor = cursor;
       cells = cells_same (after_run run (met (seen old))) (met (seen new)) memory (λ place lt. later (ram_first + 4 * place)) cells;
       fates =
-          let P : ℕ → Type 0 = λ t. TellAll old.flips.value (met (seen old)) t 0 old.fates.items in
-          let after : TellAll old.flips.value (after_run strikes (met (seen old))) (turn + 1) 0 (marked strikes (met (seen old)) old.fates.items) =
-          tells_turn old.flips.value turn (met (seen old)) old.fates.items (subst P turns is.fates) in
-          let Q : List Strike → Type 0 = λ r. TellAll old.flips.value (after_run r (met (seen old))) (turn + 1) 0 (marked r (met (seen old)) old.fates.items) in
-          let R : List Fate → Type 0 = λ fs. TellAll old.flips.value (after_run run (met (seen old))) (turn + 1) 0 fs in
-          tells_later old.flips.value (after_run run (met (seen old))) (met (seen new)) (turn + 1) 0 fates.items (λ number addr. ap (happened (is_applied word_budget number)) (later addr))
+          let P : ℕ → Type 0 = λ t. TellAll memory_aim old.flips.value (met (seen old)) t 0 old.fates.items in
+          let after : TellAll memory_aim old.flips.value (after_run strikes (met (seen old))) (turn + 1) 0 (marked strikes (met (seen old)) old.fates.items) =
+          tells_turn memory_aim old.flips.value turn (met (seen old)) old.fates.items (subst P turns is.fates) in
+          let Q : List Strike → Type 0 = λ r. TellAll memory_aim old.flips.value (after_run r (met (seen old))) (turn + 1) 0 (marked r (met (seen old)) old.fates.items) in
+          let R : List Fate → Type 0 = λ fs. TellAll memory_aim old.flips.value (after_run run (met (seen old))) (turn + 1) 0 fs in
+          tells_later memory_aim old.flips.value (after_run run (met (seen old))) (met (seen new)) (turn + 1) 0 fates.items (λ number addr. ap (happened (is_applied word_budget number)) (later addr))
           (subst R (sym told) (subst Q (sym same_run) after));
     }
 
@@ -214,7 +217,7 @@ met_idle bus word not_begun =
 
 -- the bus before its first turn
 pub bus_first : (new : Inside) (ram : ℕ) (image : Image) → new.most < 2 ^ 32 → new.transfers.items ≡ [] → new.most ≤ vec_capacity new.transfers → new.begun ≡ false → new.next ≡ 0
-    → HoldsImage ram image new.memory → All (AimsInRam ram) new.flips.value → IsPlan new.flips.value new.plan.items
+    → HoldsImage ram image new.memory → All (AimsInRam ram) new.flips.value → IsPlan memory_aim new.flips.value new.plan.items
     → length new.fates.items ≡ length new.flips.value → All (λ fate. fate ≡ Late) new.fates.items → IsBus new
 bus_first new ram image most none reserved not_begun next holds aims plan count late =
     let turns : turns_struck new ≡ 0 = turns_idle new not_begun ∙ ap (length {A = Transfer}) none in
@@ -229,8 +232,8 @@ bus_first new ram image most none reserved not_begun next holds aims plan count 
       cursor = record {
         before = λ k none lt within. absurd (omega (arith, next, lt));
         behind = λ k none le within.
-            let P : ℕ → Type 0 = λ turn. turn ≤ (slice_index_or new.plan.items k none).turn in
-            subst P (sym turns) (zero_le (slice_index_or new.plan.items k none).turn);
+            let P : ℕ → Type 0 = λ turn. turn ≤ (slice_index_or new.plan.items k none).at in
+            subst P (sym turns) (zero_le (slice_index_or new.plan.items k none).at);
       };
       cells = record {
         each = λ place lt.
@@ -243,6 +246,6 @@ bus_first new ram image most none reserved not_begun next holds aims plan count 
             rw (fresh_met addr, cell) (cell_fresh (word_at image addr));
       };
       fates =
-          let P : ℕ → Type 0 = λ turn. TellAll new.flips.value (met (seen new)) turn 0 new.fates.items in
-          subst P (sym turns) (tells_first new.flips.value (met (seen new)) new.fates.items count late fresh_met);
+          let P : ℕ → Type 0 = λ turn. TellAll memory_aim new.flips.value (met (seen new)) turn 0 new.fates.items in
+          subst P (sym turns) (tells_first memory_aim new.flips.value (met (seen new)) new.fates.items count late fresh_met);
     }

@@ -1,9 +1,7 @@
 pub mod CellLemmas
-pub mod FateLemmas
 pub mod HistoryLemmas
 pub mod PlanLemmas
 pub mod TellLemmas
-pub mod StrikeLemmas
 pub mod BusLemmas
 pub mod InsideLemmas
 pub mod StoreLemmas

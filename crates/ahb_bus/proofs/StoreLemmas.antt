@@ -1,10 +1,9 @@
 -- Stores and atomics: what their lengths say, how they write, and what the word that they meet reads as.
 use Rattle.std.proofs.Common.{◌≡◌, ℕ, ◌+◌, ◌*◌, ◌/◌, ◌%◌, ◌^◌, ◌<◌, ◌≤◌, Bool, true, false, ◌||◌, cond, nat_eq, nat_lt, List, [], ◌∷◌, ◌++◌, Vec, Global, length, slice_index, slice_index_or, slice_set, Some, None, IsTrue, refl, sym, ap, ◌∙◌, subst, arith, inl, inr}
-use Rattle.std.proofs.lemmas.Bool.{false≢true, lt-ltb, eq-eqb, ne_eqb, cases_eq}
+use Rattle.std.proofs.lemmas.Bool.{false≢true, lt-ltb, ne_eqb, cases_eq}
 use Rattle.std.proofs.lemmas.Bool.Decides.{nat_tests}
 use Rattle.std.proofs.lemmas.List.{map-set, length-set}
-use Rattle.lf_num.specs.Columns.{columns_sum}
-use Rattle.lf_model.specs.Flips.{How, Moment, is_bad_word, syndrome}
+use Rattle.lf_model.specs.Flips.{How, Moment, is_bad_word}
 use Rattle.lf_model.specs.Flips.How.{Whole, ByPartStore, ByAtomic}
 use Rattle.lf_model.specs.Start.{is_in_ram}
 use Rattle.lf_model.specs.WordHistory.{write_by}
@@ -12,14 +11,14 @@ use Rattle.lf_model.specs.declared.bus.Transfer.{Transfer}
 use Rattle.lf_model.specs.declared.bus.TurnKind.{TurnKind}
 use Rattle.lf_model.specs.declared.bus.TurnKind.TheVariants.{Fetch, Load, Store, Atomic, Snoop, Look, Fix}
 use Rattle.lf_model.specs.declared.trace.Fate.{Fate}
-use Rattle.ft_memory.specs.Cells.{CellState, fresh, syndrome_of}
+use Rattle.ft_memory.specs.Cells.{CellState, fresh}
 use Rattle.ft_memory.specs.Memory.{ram_of, place_of, cell_at}
 use Rattle.ft_memory.specs.Parts.{word_address, is_part}
+use Rattle.flip_plan.specs.Cells.{IsCellOf}
 use Rattle.ahb_bus.specs.BusState.{BusState, ram_size, word_of, met, after_turn, with_word}
 use Rattle.ahb_bus.specs.Storing.{is_rewrite, word_stored, with_stored}
-use Rattle.ahb_bus.specs.Cells.{values, IsCellOf, AreCellsOf}
+use Rattle.ahb_bus.specs.Cells.{values, AreCellsOf}
 use Rattle.ahb_bus.specs.Inside.{seen, IsBus}
-use Rattle.ahb_bus.specs.Telling.{TellSame}
 use Rattle.ahb_bus.specs.declared.bus.Bus.TheInside.{Inside}
 use Rattle.ahb_bus.specs.declared.held.Held.{Held}
 use Rattle.ahb_bus.proofs.BusLemmas.{value_at, in_ram_cells, cell_met}
@@ -97,22 +96,12 @@ cell_around hs cells addr len some within in_ram are =
     let P : ℕ → Type 0 = λ place. IsCellOf (hs (word_address addr)) (slice_index_or cells place (fresh 0)) in
     subst P (place_of-word addr (in_ram_above (length cells) addr len in_ram)) (cell_met hs cells (word_address addr) are word_is (word_aligned addr))
 
--- it reads good or bad by its history
-pub good_history : (h : List Moment) (cell : CellState) → IsCellOf h cell → length cell.toggled < 2 → is_bad_word h ≡ false
-good_history h cell is few = ap (λ (set : List ℕ). nat_eq (length set) 2) (sym is.toggled) ∙ ne_eqb (length cell.toggled) 2 (λ e. absurd (omega (arith, e, few)))
-
-pub bad_history : (h : List Moment) (cell : CellState) → IsCellOf h cell → length cell.toggled ≡ 2 → is_bad_word h ≡ true
-bad_history h cell is two = ap (λ (set : List ℕ). nat_eq (length set) 2) (sym is.toggled) ∙ eq-eqb (length cell.toggled) 2 two
-
 -- an answer tells it bad just where it is
 pub not_told_bad : {bad : Bool} → bad ≡ false → ((◌≡◌ {A = Bool} false true → IsTrue bad) × (IsTrue bad → ◌≡◌ {A = Bool} false true))
 not_told_bad {bad} good = ((λ e. absurd (false≢true e)), (λ is. sym good ∙ is))
 
 pub told_bad : {bad : Bool} → bad ≡ true → ((◌≡◌ {A = Bool} true true → IsTrue bad) × (IsTrue bad → ◌≡◌ {A = Bool} true true))
 told_bad {bad} is = ((λ e. is), (λ e. refl))
-
-pub same_syndrome : (h : List Moment) (cell : CellState) → IsCellOf h cell → syndrome_of cell ≡ syndrome h
-same_syndrome h cell is = ap columns_sum is.toggled
 
 -- the words once one is stored
 pub values_stored : (cells : List CellState) (addr len value : ℕ) {new : List CellState}
@@ -182,7 +171,3 @@ values_doubled cells addr high low {new} is =
     ap values is
     ∙ map-set (λ (cell : CellState). cell.value) (slice_set cells (place_of addr) (fresh high)) (place_of (addr + 4)) (fresh low)
     ∙ ap (λ (words : List ℕ). slice_set words (place_of (addr + 4)) low) (map-set (λ (cell : CellState). cell.value) cells (place_of addr) (fresh high))
-
--- fates that are told alike twice
-pub same_twice : {old middle new : List Fate} → TellSame old middle → TellSame middle new → TellSame old new
-same_twice {old} {middle} {new} first second = record { late = second.late ∙ first.late; declined = second.declined ∙ first.declined }

@@ -1,12 +1,13 @@
 -- What the bus keeps, and what of it its users see.
 use Rattle.std.specs.Prelude.{ℕ, ◌+◌, ◌-◌, ◌^◌, ◌<◌, ◌≤◌, length, All, if◌then◌else◌}
 use Rattle.std.specs.Prelude.{vec_len, vec_capacity}
+use Rattle.lf_model.specs.Strikes.{memory_aim}
 use Rattle.ft_memory.specs.Memory.{ram_of}
+use Rattle.flip_plan.specs.Plan.{IsPlan, IsCursor}
+use Rattle.flip_plan.specs.Telling.{TellAll}
 use Rattle.ahb_bus.specs.declared.bus.Bus.TheInside.{Inside}
 use Rattle.ahb_bus.specs.BusState.{BusState, met, AimsInRam}
 use Rattle.ahb_bus.specs.Cells.{values, AreCellsOf}
-use Rattle.ahb_bus.specs.Plan.{IsPlan, IsCursor}
-use Rattle.ahb_bus.specs.Telling.{TellAll}
 
 abbrev pub seen : Inside → BusState
 seen bus = record {
@@ -29,9 +30,9 @@ pub record IsBus (bus : Inside) : Type 0 where
   pub reserved : bus.most ≤ vec_capacity bus.transfers
   -- the plan is that of the script, which aims at RAM
   pub aims : All (AimsInRam (ram_of bus.memory)) bus.flips.value
-  pub plan : IsPlan bus.flips.value bus.plan.items
+  pub plan : IsPlan memory_aim bus.flips.value bus.plan.items
   pub next : bus.next ≤ vec_len bus.plan
   pub cursor : IsCursor bus.plan.items bus.next (turns_struck bus)
   -- each cell is as its word's history has it, and the fates tell the flips that struck
   pub cells : AreCellsOf (met (seen bus)) bus.memory
-  pub fates : TellAll bus.flips.value (met (seen bus)) (turns_struck bus) 0 bus.fates.items
+  pub fates : TellAll memory_aim bus.flips.value (met (seen bus)) (turns_struck bus) 0 bus.fates.items

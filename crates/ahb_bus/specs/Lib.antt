@@ -1,7 +1,5 @@
 pub mod BusState
 pub mod Storing
-pub mod Plan
+pub mod Aimed
 pub mod Cells
-pub mod Striking
-pub mod Telling
 pub mod Inside

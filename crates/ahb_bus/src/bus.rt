@@ -8,12 +8,12 @@ ghost use Rattle.ahb_bus.specs.BusState.{ram_size, word_of, shown, is_fill, fill
 ghost use Rattle.ahb_bus.specs.Storing.{is_store_length, is_atomic_length, is_rewrite, meets_bad, syndrome_at, is_lost, with_stored, write_made, rewrite_made, store_made, atomic_made};
 
 use crate::held::{Held, held_of, release};
-use crate::plan::{Strike, plan_of, run_end};
 use crate::record::{BusRecord, Who};
 use crate::replace::replace;
 use crate::stop::stop_all;
 use crate::strike::strike_all;
 use crate::transfer::{note, packed_syndromes, with_read, without_lengths, write_of};
+use flip_plan::{Array, Strike, plan_of, run_end};
 use ft_memory::{Got, Memory};
 use lf_model::bus::{Bad, Line, Pending, Transfer, TurnKind, Why};
 use lf_model::config::Config;
@@ -100,7 +100,7 @@ impl Bus {
         ensures start { IfOk result (StartsWith s.now) }
     {
         let memory = Memory::new(alloc, s.config.ram, &s.image)?;
-        let plan = plan_of(alloc, s.flips.as_slice())?;
+        let plan = plan_of(alloc, s.flips.as_slice(), Array::Memory)?;
         let held = held_of(alloc, &plan)?;
         let fates = all_late(alloc, s.flips.len())?;
         let most = most_transfers_of(&s.config);

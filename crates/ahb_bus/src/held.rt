@@ -1,8 +1,8 @@
 ghost use Rattle.std.specs.Prelude.{◌≡◌, ◌<◌, length, false, IfSome, IsTrue};
 ghost use Rattle.lf_model.specs.FlipFates.{is_late, is_declined};
-ghost use Rattle.ahb_bus.specs.Telling.{TellSame};
+ghost use Rattle.flip_plan.specs.Telling.{TellSame};
 
-use crate::plan::Strike;
+use flip_plan::Strike;
 use lf_model::trace::Fate;
 use std::alloc::{AllocError, Global};
 
@@ -19,7 +19,7 @@ pub fn held_of(alloc: Global, plan: &[Strike]) -> Result<Vec<Held>, AllocError> 
     let mut held = Vec::with_capacity(alloc, plan.len())?;
     for strike in plan {
         held.push(Held {
-            word: strike.word,
+            word: strike.unit,
             older: None,
             newer: None,
         })?;

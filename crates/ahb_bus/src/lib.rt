@@ -6,7 +6,6 @@
 
 mod bus;
 mod held;
-mod plan;
 mod record;
 mod replace;
 mod stop;

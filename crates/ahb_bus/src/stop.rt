@@ -1,8 +1,8 @@
 ghost use Rattle.std.specs.Prelude.{◌≡◌};
-ghost use Rattle.ahb_bus.specs.Telling.{TellSame};
+ghost use Rattle.flip_plan.specs.Telling.{TellSame};
 
 use crate::held::settle;
-use crate::plan::Strike;
+use flip_plan::Strike;
 use lf_model::trace::{Fate, Word2};
 
 /// The flips of the plan that were the last two to be applied to a word up to a turn.
@@ -10,7 +10,7 @@ fn last_two(plan: &[Strike], fates: &[Fate], word: u32, turn: u32) -> [Option<us
     let mut last = [None, None];
     for strike in plan {
         let number = strike.number;
-        let is_here = strike.word == word && strike.turn <= turn;
+        let is_here = strike.unit == word && strike.at <= turn;
         if is_here && number < fates.len() && fates[number] != Fate::Declined {
             last = [last[1], Some(number)];
         }

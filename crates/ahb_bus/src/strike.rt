@@ -1,12 +1,12 @@
 ghost use Rattle.std.specs.Prelude.{◌≡◌, ◌<◌, ℕ, List, All, map, vec_len};
 ghost use Rattle.lf_model.specs.Flips.{Moment};
 ghost use Rattle.ft_memory.specs.Memory.{ram_of};
+ghost use Rattle.flip_plan.specs.Striking.{struck_by, after_run, marked_one, marked};
+ghost use Rattle.ahb_bus.specs.Aimed.{IsAimed};
 ghost use Rattle.ahb_bus.specs.Cells.{values, AreCellsOf};
-ghost use Rattle.ahb_bus.specs.Plan.{IsAimed};
-ghost use Rattle.ahb_bus.specs.Striking.{struck_by, after_run, marked_one, marked};
 
 use crate::held::{Held, hold};
-use crate::plan::Strike;
+use flip_plan::Strike;
 use ft_memory::{Flipped, Memory};
 use lf_model::trace::Fate;
 
@@ -18,9 +18,9 @@ fn strike(memory: &mut Memory, held: &mut Vec<Held>, fates: &mut Vec<Fate>, s: S
     ensures cells { (h : ℕ → List Moment) → AreCellsOf h memory.old → AreCellsOf (struck_by s h) memory.new }
     ensures fates { (h : ℕ → List Moment) → AreCellsOf h memory.old → fates.new.items ≡ marked_one s h fates.old.items }
 {
-    match memory.flip(s.word, s.bit) {
+    match memory.flip(s.unit, s.bit) {
         Flipped::Applied => {
-            hold(held, s.word, s.number);
+            hold(held, s.unit, s.number);
             fates[s.number] = Fate::Dormant;
         }
         Flipped::Declined(_) => fates[s.number] = Fate::Declined,

@@ -2,7 +2,7 @@ use Rattle.std.proofs.Common.{◌≡◌, IsTrue, sym, ap, ◌∙◌, rules, arit
 use Rattle.std.specs.Prelude.{slice_index_or}
 use Rattle.lf_model.specs.FlipFates.{is_late, is_declined}
 use Rattle.std.proofs.lemmas.List.{get_or_default}
-use Rattle.ahb_bus.proofs.FateLemmas.{same_settled}
+use Rattle.flip_plan.proofs.FateLemmas.{same_settled}
 use Rattle.ahb_bus.proofs.held.settle.Goals as goal
 
 pub returns-then-is_open : goal.returns-then-is_open

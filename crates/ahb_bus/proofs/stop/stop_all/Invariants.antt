@@ -1,4 +1,4 @@
-use Rattle.ahb_bus.specs.Telling.{TellSame}
+use Rattle.flip_plan.specs.Telling.{TellSame}
 use Rattle.ahb_bus.proofs.stop.stop_all.Given as goal
 
 abbrev pub invariant-loop-word : goal.invariant-loop-word

@@ -6,7 +6,7 @@ use Rattle.ahb_bus.proofs.strike.strike.Goals as goal
 
 pub returns-in-Applied-clause-words : goal.returns-in-Applied-clause-words
 returns-in-Applied-clause-words c =
-    values_struck c.args.memory.now c.flip.new.self (place_of c.args.s.word) c.args.s.bit (cell_at c.flip.new.self c.args.s.word) Applied c.in-Applied.ensures.cell c.in-Applied.ensures.others
+    values_struck c.args.memory.now c.flip.new.self (place_of c.args.s.unit) c.args.s.bit (cell_at c.flip.new.self c.args.s.unit) Applied c.in-Applied.ensures.cell c.in-Applied.ensures.others
 
 pub returns-in-Applied-clause-cells : goal.returns-in-Applied-clause-cells
 returns-in-Applied-clause-cells c =

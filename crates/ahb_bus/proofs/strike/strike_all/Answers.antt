@@ -3,18 +3,18 @@ use Rattle.std.specs.Prelude.{slice_index_or}
 use Rattle.std.proofs.lemmas.List.{take_more}
 use Rattle.lf_model.specs.Flips.{Moment}
 use Rattle.ahb_bus.specs.Cells.{AreCellsOf}
-use Rattle.ahb_bus.specs.Striking.{after_run, marked_one, marked}
-use Rattle.ahb_bus.specs.declared.plan.Strike.{Strike}
-use Rattle.ahb_bus.proofs.StrikeLemmas.{after_run-more, marked-more}
+use Rattle.flip_plan.specs.Striking.{after_run, marked_one, marked}
+use Rattle.flip_plan.specs.declared.plan.Strike.{Strike}
+use Rattle.flip_plan.proofs.StrikeLemmas.{after_run-more, marked-more}
 use Rattle.ahb_bus.proofs.strike.strike_all.Goals as goal
 
 pub loop-s-preserved : goal.loop-s-preserved
 loop-s-preserved c =
     let run : List Strike = c.args.run.now in
     let i : ℕ = c.loop-s.s-index in
-    let s : Strike = slice_index_or run i (record { turn = 0; word = 0; bit = 0; number = 0 }) in
+    let s : Strike = slice_index_or run i (record { at = 0; unit = 0; bit = 0; number = 0 }) in
     let before : List Strike = take i run in
-    let more : before ++ s ∷ [] ≡ take (i + 1) run = sym (take_more run i (record { turn = 0; word = 0; bit = 0; number = 0 }) c.loop-s-test.true) in
+    let more : before ++ s ∷ [] ≡ take (i + 1) run = sym (take_more run i (record { at = 0; unit = 0; bit = 0; number = 0 }) c.loop-s-test.true) in
     record {
       words = c.strike.ensures.words ∙ c.loop-s.invariant.words;
       count = c.strike.ensures.count ∙ c.loop-s.invariant.count;

@@ -1,7 +1,7 @@
 use Rattle.std.proofs.Common.{◌≡◌, ℕ, List, take, vec_len}
 use Rattle.lf_model.specs.Flips.{Moment}
 use Rattle.ahb_bus.specs.Cells.{values, AreCellsOf}
-use Rattle.ahb_bus.specs.Striking.{after_run, marked}
+use Rattle.flip_plan.specs.Striking.{after_run, marked}
 use Rattle.ahb_bus.proofs.strike.strike_all.Given as goal
 
 abbrev pub invariant-loop-s : goal.invariant-loop-s

@@ -4,12 +4,13 @@ use Rattle.lf_model.specs.declared.bus.Transfer.{Transfer}
 use Rattle.ft_memory.specs.Cells.{fresh}
 use Rattle.ft_memory.specs.Memory.{place_of, cell_at}
 use Rattle.ft_memory.specs.Parts.{word_address}
+use Rattle.flip_plan.proofs.CellLemmas.{good_history, bad_history, same_syndrome}
 use Rattle.ahb_bus.specs.BusState.{BusState, met}
 use Rattle.ahb_bus.specs.Storing.{word_stored, packed_alone, rewrite_made}
 use Rattle.ahb_bus.specs.Cells.{values}
 use Rattle.ahb_bus.specs.Inside.{seen}
 use Rattle.ahb_bus.proofs.InsideLemmas.{bus_after, cells_rewritten, cells_refused, seen_after}
-use Rattle.ahb_bus.proofs.StoreLemmas.{how_of, rewrite_writes, rewrite_refused, good_history, bad_history, not_told_bad, told_bad, same_syndrome, rewrites, seen_rewritten, size_written}
+use Rattle.ahb_bus.proofs.StoreLemmas.{how_of, rewrite_writes, rewrite_refused, not_told_bad, told_bad, rewrites, seen_rewritten, size_written}
 use Rattle.ahb_bus.proofs.bus.Bus.rewrite.Goals as goal
 
 pub invariant_of-self : goal.invariant_of-self

@@ -3,12 +3,13 @@ use Rattle.lf_model.specs.declared.bus.Transfer.{Transfer}
 use Rattle.lf_model.specs.declared.bus.TurnKind.TheVariants.{Store}
 use Rattle.ft_memory.specs.Cells.{CellState, fresh}
 use Rattle.ft_memory.specs.Memory.{place_of}
+use Rattle.flip_plan.proofs.FateLemmas.{same_twice}
 use Rattle.ahb_bus.specs.BusState.{BusState}
 use Rattle.ahb_bus.specs.Storing.{write_made}
 use Rattle.ahb_bus.specs.Inside.{seen}
 use Rattle.ahb_bus.proofs.BusLemmas.{in_ram_cells}
 use Rattle.ahb_bus.proofs.InsideLemmas.{bus_after, cells_doubled, seen_after}
-use Rattle.ahb_bus.proofs.StoreLemmas.{size_doubled, values_doubled, same_twice, word_of_double}
+use Rattle.ahb_bus.proofs.StoreLemmas.{size_doubled, values_doubled, word_of_double}
 use Rattle.ahb_bus.proofs.bus.Bus.store_double.Goals as goal
 
 pub invariant_of-self : goal.invariant_of-self

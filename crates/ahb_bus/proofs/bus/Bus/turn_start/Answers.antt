@@ -1,12 +1,14 @@
 use Rattle.std.proofs.Common.{◌≡◌, ℕ, ◌+◌, ◌-◌, ◌<◌, ◌≤◌, false, nat_eq, List, length, take, drop, vec_len, sym, ap, ◌∙◌, subst, arith}
 use Rattle.std.specs.Prelude.{All, filter}
 use Rattle.ft_memory.specs.Memory.{ram_of}
+use Rattle.flip_plan.specs.Plan.{IsCursor}
+use Rattle.flip_plan.specs.declared.plan.Strike.{Strike}
+use Rattle.flip_plan.proofs.PlanLemmas.{run_in}
+use Rattle.ahb_bus.specs.Aimed.{IsAimed}
 use Rattle.ahb_bus.specs.BusState.{BusState, met}
 use Rattle.ahb_bus.specs.Inside.{seen}
-use Rattle.ahb_bus.specs.Plan.{IsAimed, IsCursor, strikes_from}
-use Rattle.ahb_bus.specs.declared.plan.Strike.{Strike}
 use Rattle.ahb_bus.proofs.InsideLemmas.{bus_begun}
-use Rattle.ahb_bus.proofs.PlanLemmas.{aimed_run, run_in}
+use Rattle.ahb_bus.proofs.PlanLemmas.{aimed_run}
 use Rattle.ahb_bus.proofs.bus.Bus.turn_start.Goals as goal
 
 pub strike_all-requires : goal.strike_all-requires
@@ -14,15 +16,15 @@ strike_all-requires c =
     let old = c.self.inside in
     let turn : c.len-turn.result ≡ length old.transfers.items = c.len-turn.ensures ∙ old.transfers.ok.0 in
     let run : List Strike = take (c.run_end-end.result - old.next) (drop old.next c.deref-2.result.now) in
-    let is_run : run ≡ filter (λ (s : Strike). nat_eq s.turn (length old.transfers.items)) old.plan.items =
+    let is_run : run ≡ filter (λ (s : Strike). nat_eq s.at (length old.transfers.items)) old.plan.items =
     run_in old.next c.run_end-end.result c.deref.ensures.value c.deref-2.ensures.value turn c.run_end-end.ensures.run in
     let count : vec_len old.fates ≡ length old.flips.value = old.fates.ok.0 ∙ c.self.invariant.fates.count in
     let P : List Strike → Type 0 = λ strikes. All (IsAimed (ram_of old.memory) (vec_len old.fates)) strikes in
-    let Q : ℕ → Type 0 = λ n. All (IsAimed (ram_of old.memory) n) (filter (λ (s : Strike). nat_eq s.turn (length old.transfers.items)) (strikes_from 0 old.flips.value)) in
+    let Q : ℕ → Type 0 = λ n. All (IsAimed (ram_of old.memory) n) (filter (λ (s : Strike). nat_eq s.at (length old.transfers.items)) old.plan.items) in
     record {
       aimed =
-          subst P (sym (is_run ∙ c.self.invariant.plan.runs (length old.transfers.items)))
-          (subst Q (sym count) (aimed_run (ram_of old.memory) (length old.transfers.items) old.flips.value c.self.invariant.aims));
+          subst P (sym is_run)
+          (subst Q (sym count) (aimed_run (ram_of old.memory) (length old.transfers.items) old.flips.value old.plan.items c.self.invariant.plan c.self.invariant.aims));
     }
 
 pub invariant_of-self : goal.invariant_of-self
@@ -30,7 +32,7 @@ invariant_of-self c =
     let old = c.self.inside in
     let turn : c.len-turn.result ≡ length old.transfers.items = c.len-turn.ensures ∙ old.transfers.ok.0 in
     let run : List Strike = take (c.run_end-end.result - old.next) (drop old.next c.deref-2.result.now) in
-    let is_run : run ≡ filter (λ (s : Strike). nat_eq s.turn (length old.transfers.items)) old.plan.items =
+    let is_run : run ≡ filter (λ (s : Strike). nat_eq s.at (length old.transfers.items)) old.plan.items =
     run_in old.next c.run_end-end.result c.deref.ensures.value c.deref-2.ensures.value turn c.run_end-end.ensures.run in
     let not_begun : old.begun ≡ false = ap (λ (bus : BusState). bus.begun) c.self.view_is ∙ c.requires.none_begun in
     let spare : 0 < old.most - length old.transfers.items = rw (← c.self.view_is) at c.requires.room in

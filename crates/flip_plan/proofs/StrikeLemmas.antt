@@ -2,8 +2,8 @@
 use Rattle.std.proofs.Common.{◌≡◌, ℕ, List, [], ◌∷◌, ◌++◌, refl}
 use Rattle.lf_model.specs.Flips.{Moment}
 use Rattle.lf_model.specs.declared.trace.Fate.{Fate}
-use Rattle.ahb_bus.specs.Striking.{struck_by, after_run, marked_one, marked}
-use Rattle.ahb_bus.specs.declared.plan.Strike.{Strike}
+use Rattle.flip_plan.specs.Striking.{struck_by, after_run, marked_one, marked}
+use Rattle.flip_plan.specs.declared.plan.Strike.{Strike}
 
 pub after_run-more : (run : List Strike) (s : Strike) (h : ℕ → List Moment) → after_run (run ++ s ∷ []) h ≡ struck_by s (after_run run h)
 after_run-more [] s h = refl

@@ -1,0 +1,5 @@
+pub mod Arrays
+pub mod Plan
+pub mod Striking
+pub mod Telling
+pub mod Cells
