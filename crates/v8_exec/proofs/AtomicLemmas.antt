@@ -1,9 +1,10 @@
 -- LDSTUB and SWAP: the effect of an instruction whose operation is an atomic.
 use Rattle.std.proofs.Common.{◌≡◌, ℕ, ◌∷◌, [], List, Bool, cond, true, false, Option, Some, None, unwrap_or, refl, sym, ap, ◌∙◌, ◌==◌}
+use Rattle.lf_model.specs.CellAccess.{after_cells}
 use Rattle.lf_model.specs.Start.{output_word}
 use Rattle.lf_model.specs.State.{State, advanced, with_register}
 use Rattle.lf_model.specs.Instructions.{registers_read}
-use Rattle.lf_model.specs.Effect.{Site, Access, Effect, sum_of_operands}
+use Rattle.lf_model.specs.Effect.{Site, Access, Effect, cell_written, sum_of_operands}
 use Rattle.lf_model.specs.Traps.{unless_trap}
 use Rattle.lf_model.specs.Memory.{output_effect, store_effect, mem_effect}
 use Rattle.lf_model.specs.Alternate.{is_plain_space, control_effect}
@@ -28,7 +29,7 @@ use Rattle.lf_model.specs.declared.step.Look.{Look}
 use Rattle.lf_model.specs.declared.step.Look.TheVariants.{Hit, Miss}
 use Rattle.lf_model.specs.declared.step.RegBad.{RegBad}
 use Rattle.lf_model.specs.declared.step.Turn.TheVariants.{Atomic, Drain, Load}
-use Rattle.v8_exec.specs.Accesses.{atomic_access, IsAccessing, Finishes}
+use Rattle.v8_exec.specs.Accesses.{atomic_access, IsAccessing, Finishes, WritesAtEnd}
 
 -- ---- the operation of an effect
 
@@ -40,30 +41,45 @@ abbrev rd_in : Option Access → ℕ
 rd_in None = 0
 rd_in (Some a) = a.rd
 
--- if the operation is an atomic, its register gets what it reads
+-- if the operation is an atomic, its register gets what it reads, and no other cell is written
 record EndsAtomic (s : State) (e : Effect) : Type 0 where
   ends : (addr len new rd got : ℕ) → e.access ≡ Some (atomic_access addr len new rd) → e.next got ≡ advanced (with_register rd got s)
+  writes : (addr len new rd : ℕ) → e.access ≡ Some (atomic_access addr len new rd) → e.writes ≡ cell_written s rd
+
+-- the operation is no atomic
+ends_other : (s : State) (e : Effect) → ((a : Access) → a.kind ≡ kinds.Atomic → e.access ≡ Some a → ⊥) → EndsAtomic s e
+ends_other s e other = record {
+  ends = λ addr len new rd got is. absurd (other (atomic_access addr len new rd) refl is);
+  writes = λ addr len new rd is. absurd (other (atomic_access addr len new rd) refl is);
+}
 
 ends_without : (s : State) (e : Effect) → e.access ≡ None → EndsAtomic s e
-ends_without s e none = record { ends = λ addr len new rd got is. let k : kinds.Load ≡ kinds.Atomic = ap kind_in (sym none ∙ is) in absurd (cc) }
+ends_without s e none = ends_other s e (λ a atomic is. let k : kinds.Load ≡ a.kind = ap kind_in (sym none ∙ is) in absurd (cc))
 
 ends_trap : (s : State) (trap : Option ℕ) (e : Effect) → EndsAtomic s e → EndsAtomic s (unless_trap trap s e)
 ends_trap s None e ends = ends
 ends_trap s (Some tt_) e ends = ends_without s (unless_trap (Some tt_) s e) refl
 
 ends_load : (s : State) (e : Effect) → kind_in e.access ≡ kinds.Load → EndsAtomic s e
-ends_load s e load = record { ends = λ addr len new rd got is. let k : kinds.Load ≡ kinds.Atomic = sym load ∙ ap kind_in is in absurd (cc) }
+ends_load s e load = ends_other s e (λ a atomic is. let k : kinds.Load ≡ a.kind = sym load ∙ ap kind_in is in absurd (cc))
 
 ends_store : (s : State) (e : Effect) → kind_in e.access ≡ kinds.Store → EndsAtomic s e
-ends_store s e store = record { ends = λ addr len new rd got is. let k : kinds.Store ≡ kinds.Atomic = sym store ∙ ap kind_in is in absurd (cc) }
+ends_store s e store = ends_other s e (λ a atomic is. let k : kinds.Store ≡ a.kind = sym store ∙ ap kind_in is in absurd (cc))
+
+-- the operation has this register
+ends_with : (s : State) (e : Effect) (rd : ℕ) → rd_in e.access ≡ rd → ((got : ℕ) → e.next got ≡ advanced (with_register rd got s)) → e.writes ≡ cell_written s rd → EndsAtomic s e
+ends_with s e rd register next writes = record {
+  ends = λ addr len new rd' got is. next got ∙ ap (λ (n : ℕ). advanced (with_register n got s)) (sym register ∙ ap rd_in is);
+  writes = λ addr len new rd' is. writes ∙ ap (λ (n : ℕ). cell_written s n) (sym register ∙ ap rd_in is);
+}
 
 ends_output : (s : State) (registers : List ℕ) (addr rd : ℕ) (b : Bool) → EndsAtomic s (cond b (output_effect registers rd s) (store_effect registers St addr rd s))
 ends_output s registers addr rd true = ends_without s _ refl
 ends_output s registers addr rd false = ends_store s _ refl
 
 ends_mem : (s : State) (registers : List ℕ) (name : MemName) (addr rd : ℕ) → EndsAtomic s (mem_effect registers name addr rd s)
-ends_mem s registers Ldstub addr rd = record { ends = λ addr' len new rd' got is. ap (λ (n : ℕ). advanced (with_register n got s)) (ap rd_in is) }
-ends_mem s registers Swap addr rd = record { ends = λ addr' len new rd' got is. ap (λ (n : ℕ). advanced (with_register n got s)) (ap rd_in is) }
+ends_mem s registers Ldstub addr rd = ends_with s _ rd refl (λ got. refl) refl
+ends_mem s registers Swap addr rd = ends_with s _ rd refl (λ got. refl) refl
 ends_mem s registers St addr rd = ends_output s registers addr rd (addr == output_word)
 ends_mem s registers Stb addr rd = ends_store s _ refl
 ends_mem s registers Sth addr rd = ends_store s _ refl
@@ -250,3 +266,10 @@ finished i parts addr len new rd got old next before after state ops site is =
     (ap (λ (l : List Entry). with_access after.site.core got (Some (atomic_access addr len new rd)) l) ops
     ∙ ap (λ (t : Site). with_access t.core got (Some (atomic_access addr len new rd)) before.ops) site
     ∙ ap (λ (x : Option Access). with_access before.site.core got x before.ops) (sym access))
+
+pub written : {X : Type 0} (write : ℕ → X → X) (i : Instr) (parts : Parts) (addr len new rd : ℕ) (old : Arch) (before : Seen) (x y : X)
+    → y ≡ after_cells write (cell_written (state_of old before) rd) x → WritesAtEnd write i parts (Atomic addr len new rd) old before x y
+written write i parts addr len new rd old before x y ends is =
+    let s = state_of old before in
+    let e = effect before.site s i in
+    ends ∙ ap (λ (cells : List ℕ). after_cells write cells x) (sym ((ends_effect before.site s i).writes addr len new rd (needs_atomic parts s e addr len new rd is)))

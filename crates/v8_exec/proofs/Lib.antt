@@ -1,4 +1,5 @@
 mod AtomicLemmas
+mod CellLemmas
 mod CheckLemmas
 mod CodeLemmas
 mod SizeLemmas

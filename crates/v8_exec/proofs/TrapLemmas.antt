@@ -20,7 +20,7 @@ use Rattle.lf_model.specs.declared.step.RegBad.{RegBad}
 
 -- ---- an effect reads the registers of its instruction
 
-unless_trap-reads : (trap : Option ℕ) (s : State) (e : Effect) → (unless_trap trap s e).reads ≡ e.reads
+pub unless_trap-reads : (trap : Option ℕ) (s : State) (e : Effect) → (unless_trap trap s e).reads ≡ e.reads
 unless_trap-reads None s e = refl
 unless_trap-reads (Some tt_) s e = refl
 
@@ -29,7 +29,7 @@ output-reads : (registers : List ℕ) (rd : ℕ) (s : State) (name : MemName) (a
 output-reads registers rd s name addr true = refl
 output-reads registers rd s name addr false = refl
 
-mem_effect-reads : (registers : List ℕ) (name : MemName) (addr rd : ℕ) (s : State) → (mem_effect registers name addr rd s).reads ≡ registers
+pub mem_effect-reads : (registers : List ℕ) (name : MemName) (addr rd : ℕ) (s : State) → (mem_effect registers name addr rd s).reads ≡ registers
 mem_effect-reads registers St addr rd s = output-reads registers rd s St addr (addr == output_word)
 mem_effect-reads registers Ldd addr rd s = refl
 mem_effect-reads registers Ld addr rd s = refl

@@ -1,5 +1,6 @@
 -- What loads, stores and atomics need of the fields of their instruction, read from its registers, and ask of the bus.
 use Rattle.std.specs.Prelude.{ℕ, ◌≡◌, ◌*◌, ◌^◌, ◌<◌, ⊤, ◌++◌, List, Some, None, Result, Ok, Err, false, true, Bool, ◌==◌, ◌||◌}
+use Rattle.lf_model.specs.CellAccess.{after_cells}
 use Rattle.lf_model.specs.Start.{touches_text}
 use Rattle.lf_model.specs.State.{State}
 use Rattle.lf_model.specs.Instructions.{operand_registers, stored_registers}
@@ -89,3 +90,9 @@ Finishes i parts (Atomic addr len new rd) got old next before after =
     → run_seen next (recorded got (atomic_access addr len new rd) after)
     ≡ performed before.site.core got (effect before.site (state_of old before) i) (run_seen old before)
 Finishes i parts _ got old next before after = ⊤
+
+-- an instruction that needed this turn writes the cells of its effect as it ends
+abbrev pub WritesAtEnd : {X : Type 0} → (ℕ → X → X) → Instr → Parts → Turn → Arch → Seen → X → X → Type 0
+WritesAtEnd write i parts turn old seen before after =
+    came_to parts (state_of old seen) (effect seen.site (state_of old seen) i) ≡ Need turn
+    → after ≡ after_cells write (effect seen.site (state_of old seen) i).writes before

@@ -1,5 +1,6 @@
 -- What every instruction leaves as it was, and how it meets its effect.
 use Rattle.std.specs.Prelude.{ℕ, ◌≡◌, ◌≤◌, ◌+◌, length, List, None, ⊤}
+use Rattle.lf_model.specs.CellAccess.{cells_after}
 use Rattle.lf_model.specs.Effect.{Effect}
 use Rattle.lf_model.specs.Effects.{effect}
 use Rattle.lf_model.specs.Step.{IsSound, Seen, Parts, state_of, run_seen, first_bad, counted, Does}
@@ -42,3 +43,8 @@ Empties _ _ empty = ⊤
 abbrev pub Performs : Instr → Parts → Did → Arch → Arch → Seen → Seen → Type 0
 Performs instr parts did old new before after =
     Does before.site.core parts (effect before.site (state_of old before) instr) did (run_seen old before) (run_seen new after)
+
+-- an instruction reads its registers, in order, up to the first that is bad, and writes its cells where it retires
+abbrev pub Touches : {X : Type 0} → (ℕ → X → X) → (ℕ → X → X) → Instr → Parts → Did → Arch → Seen → X → X → Type 0
+Touches read write instr parts did old seen before after =
+    after ≡ cells_after read write parts old.ctl.cwp (effect seen.site (state_of old seen) instr) did before

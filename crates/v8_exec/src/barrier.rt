@@ -1,7 +1,7 @@
 ghost use Rattle.std.specs.Prelude.{◌<◌};
 ghost use Rattle.lf_model.specs.Step.{IsSound};
 ghost use Rattle.lf_model.specs.declared.instruction.Instr.TheVariants.{Stbar, Flush};
-ghost use Rattle.v8_exec.specs.Frame.{Empties, Keeps, Performs};
+ghost use Rattle.v8_exec.specs.Frame.{Empties, Keeps, Performs, Touches};
 ghost use Rattle.v8_exec.specs.Reading.{IsSource};
 
 use crate::operands::read_operands;
@@ -18,6 +18,7 @@ use lf_model::step::{Did, Turn};
 pub fn store_barrier<P: Ports>(a: &mut Arch, p: &P) -> Did
     requires sound { IsSound a.old }
     ensures does { Performs Stbar (P.parts p.now) result a.old a.new (P.seen p.now) (P.seen p.now) }
+    ensures cells { Touches P.read_cell P.write_cell Stbar (P.parts p.now) result a.old (P.seen p.now) (P.struck p.now) (P.struck p.now) }
     ensures keeps { Keeps a.old a.new (P.seen p.now) (P.seen p.now) (P.room p.now) (P.room p.now) }
 {
     if p.waiting() {
@@ -34,6 +35,7 @@ pub fn flush<P: Ports>(a: &mut Arch, rs1: u8, src: Src, p: &mut P) -> Did
     requires register { rs1 < 32 }
     requires fields { IsSource src }
     ensures does { Performs (Flush rs1 src) (P.parts p.old) result a.old a.new (P.seen p.old) (P.seen p.new) }
+    ensures cells { Touches P.read_cell P.write_cell (Flush rs1 src) (P.parts p.old) result a.old (P.seen p.old) (P.struck p.old) (P.struck p.new) }
     ensures keeps { Keeps a.old a.new (P.seen p.old) (P.seen p.new) (P.room p.old) (P.room p.new) }
     ensures empties { Empties (Flush rs1 src) result (P.caches_empty p.new) }
 {

@@ -3,7 +3,7 @@ ghost use Rattle.lf_model.specs.Conditions.{condition_holds};
 ghost use Rattle.lf_model.specs.Traps.{when};
 ghost use Rattle.lf_model.specs.Step.{IsSound};
 ghost use Rattle.lf_model.specs.declared.instruction.Instr.TheVariants.{Call, Jmpl, Bicc, Ticc};
-ghost use Rattle.v8_exec.specs.Frame.{Keeps, Performs};
+ghost use Rattle.v8_exec.specs.Frame.{Keeps, Performs, Touches};
 ghost use Rattle.v8_exec.specs.Reading.{IsSource};
 
 use crate::conditions::holds;
@@ -28,6 +28,7 @@ const ALWAYS: u8 = 8;
 pub fn call<P: Ports>(a: &mut Arch, disp30: u32, p: &mut P) -> Did
     requires sound { IsSound a.old }
     ensures does { Performs (Call disp30) (P.parts p.old) result a.old a.new (P.seen p.old) (P.seen p.new) }
+    ensures cells { Touches P.read_cell P.write_cell (Call disp30) (P.parts p.old) result a.old (P.seen p.old) (P.struck p.old) (P.struck p.new) }
     ensures keeps { Keeps a.old a.new (P.seen p.old) (P.seen p.new) (P.room p.old) (P.room p.new) }
 {
     write_register(a, LINK, a.ctl.pc, p);
@@ -43,6 +44,7 @@ pub fn jump<P: Ports>(a: &mut Arch, rd: u8, rs1: u8, src: Src, p: &mut P) -> Did
     requires registers { (rd < 32) × (rs1 < 32) }
     requires fields { IsSource src }
     ensures does { Performs (Jmpl rd rs1 src) (P.parts p.old) result a.old a.new (P.seen p.old) (P.seen p.new) }
+    ensures cells { Touches P.read_cell P.write_cell (Jmpl rd rs1 src) (P.parts p.old) result a.old (P.seen p.old) (P.struck p.old) (P.struck p.new) }
     ensures keeps { Keeps a.old a.new (P.seen p.old) (P.seen p.new) (P.room p.old) (P.room p.new) }
 {
     let target = match read_operands(a, rs1, src, p) {
@@ -68,6 +70,7 @@ pub fn branch<P: Ports>(a: &mut Arch, cond: u8, annul_bit: bool, disp22: u32, p:
     requires sound { IsSound a.old }
     requires displacement { disp22 < 2 ^ 22 }
     ensures does { Performs (Bicc cond annul_bit disp22) (P.parts p.now) result a.old a.new (P.seen p.now) (P.seen p.now) }
+    ensures cells { Touches P.read_cell P.write_cell (Bicc cond annul_bit disp22) (P.parts p.now) result a.old (P.seen p.now) (P.struck p.now) (P.struck p.now) }
     ensures keeps { Keeps a.old a.new (P.seen p.now) (P.seen p.now) (P.room p.now) (P.room p.now) }
 {
     let target = displaced(a.ctl.pc, lf_num::sext(disp22, 22));
@@ -103,6 +106,7 @@ pub fn software_trap<P: Ports>(a: &mut Arch, cond: u8, rs1: u8, src: Src, p: &mu
     requires register { rs1 < 32 }
     requires fields { IsSource src }
     ensures does { Performs (Ticc cond rs1 src) (P.parts p.old) result a.old a.new (P.seen p.old) (P.seen p.new) }
+    ensures cells { Touches P.read_cell P.write_cell (Ticc cond rs1 src) (P.parts p.old) result a.old (P.seen p.old) (P.struck p.old) (P.struck p.new) }
     ensures keeps { Keeps a.old a.new (P.seen p.old) (P.seen p.new) (P.room p.old) (P.room p.new) }
 {
     let sum = match read_operands(a, rs1, src, p) {

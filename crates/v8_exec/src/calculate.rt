@@ -1,7 +1,7 @@
 ghost use Rattle.std.specs.Prelude.{◌^◌, ◌<◌};
 ghost use Rattle.lf_model.specs.Step.{IsSound};
 ghost use Rattle.lf_model.specs.declared.instruction.Instr.TheVariants.{Sethi, Calc};
-ghost use Rattle.v8_exec.specs.Frame.{Keeps, Performs};
+ghost use Rattle.v8_exec.specs.Frame.{Keeps, Performs, Touches};
 ghost use Rattle.v8_exec.specs.Reading.{IsSource};
 
 use crate::calculation::{Inputs, calculation};
@@ -20,6 +20,7 @@ pub fn sethi<P: Ports>(a: &mut Arch, rd: u8, imm22: u32, p: &mut P) -> Did
     requires register { rd < 32 }
     requires value { imm22 < 2 ^ 22 }
     ensures does { Performs (Sethi rd imm22) (P.parts p.old) result a.old a.new (P.seen p.old) (P.seen p.new) }
+    ensures cells { Touches P.read_cell P.write_cell (Sethi rd imm22) (P.parts p.old) result a.old (P.seen p.old) (P.struck p.old) (P.struck p.new) }
     ensures keeps { Keeps a.old a.new (P.seen p.old) (P.seen p.new) (P.room p.old) (P.room p.new) }
 {
     write_register(a, rd, imm22 << 10, p);
@@ -41,6 +42,7 @@ pub fn calculate<P: Ports>(
     requires registers { (rd < 32) × (rs1 < 32) }
     requires fields { IsSource src }
     ensures does { Performs (Calc name rd rs1 src) (P.parts p.old) result a.old a.new (P.seen p.old) (P.seen p.new) }
+    ensures cells { Touches P.read_cell P.write_cell (Calc name rd rs1 src) (P.parts p.old) result a.old (P.seen p.old) (P.struck p.old) (P.struck p.new) }
     ensures keeps { Keeps a.old a.new (P.seen p.old) (P.seen p.new) (P.room p.old) (P.room p.new) }
 {
     let x = match read_operands(a, rs1, src, p) {

@@ -1,10 +1,11 @@
 ghost use Rattle.std.specs.Prelude.{◌≡◌, ◌<◌, ◌+◌, ◌^◌};
+ghost use Rattle.lf_model.specs.CellAccess.{cells_after};
 ghost use Rattle.lf_model.specs.Effects.{effect};
 ghost use Rattle.lf_model.specs.Instructions.{instruction_of};
 ghost use Rattle.lf_model.specs.Traps.{fetch_trap};
 ghost use Rattle.lf_model.specs.Step.{IsSound, state_of, run_seen, counted, Does};
 ghost use Rattle.v8_exec.specs.Accesses.{Asks, IsAccessing};
-ghost use Rattle.v8_exec.specs.Frame.{Keeps, Counts, Empties, Performs};
+ghost use Rattle.v8_exec.specs.Frame.{Keeps, Counts, Empties, Performs, Touches};
 ghost use Rattle.v8_exec.specs.Reading.{IsInstruction};
 
 use crate::ports::Ports;
@@ -24,6 +25,7 @@ fn perform<P: Ports>(a: &mut Arch, instr: Instr, p: &mut P) -> Did
     requires fields { IsInstruction instr }
     requires room { 0 < P.room p.old }
     ensures does { Performs instr (P.parts p.old) result a.old a.new (P.seen p.old) (P.seen p.new) }
+    ensures cells { Touches P.read_cell P.write_cell instr (P.parts p.old) result a.old (P.seen p.old) (P.struck p.old) (P.struck p.new) }
     ensures keeps { Keeps a.old a.new (P.seen p.old) (P.seen p.new) (P.room p.old) (P.room p.new) }
     ensures empties { Empties instr result (P.caches_empty p.new) }
     ensures turn { IsAccessing instr → Asks (P.seen p.old).site result }
@@ -75,8 +77,9 @@ fn count(did: Did) -> u32
     }
 }
 
-/// The instruction word `w` at PC, which retires or is answered as the parts of the core ask. Only an instruction
-/// that retires changes state, output or operations; it is counted then, and where it halts the core.
+/// The instruction word `w` at PC, which retires or is answered as the parts of the core ask. It reads its registers in
+/// order, up to the first that is bad. Only an instruction that retires changes state, output or operations; it is
+/// counted then, and where it halts the core.
 pub fn exec<P: Ports>(a: &mut Arch, w: u32, p: &mut P) -> Did
     requires sound { IsSound a.old }
     requires core { a.old.core ≡ (P.seen p.old).site.core }
@@ -84,6 +87,7 @@ pub fn exec<P: Ports>(a: &mut Arch, w: u32, p: &mut P) -> Did
     requires operations { a.old.k + 1 < 2 ^ 32 }
     requires room { 0 < P.room p.old }
     ensures does { Does (P.seen p.old).site.core (P.parts p.old) (effect (P.seen p.old).site (state_of a.old (P.seen p.old)) (instruction_of w)) result (run_seen a.old (P.seen p.old)) (run_seen a.new (P.seen p.new)) }
+    ensures cells { P.struck p.new ≡ cells_after P.read_cell P.write_cell (P.parts p.old) a.old.ctl.cwp (effect (P.seen p.old).site (state_of a.old (P.seen p.old)) (instruction_of w)) result (P.struck p.old) }
     ensures counts { Counts a.old a.new (P.seen p.old) (P.seen p.new) (P.room p.old) (P.room p.new) result }
     ensures empties { Empties (instruction_of w) result (P.caches_empty p.new) }
     ensures turn { Asks (P.seen p.old).site result }
@@ -98,6 +102,7 @@ pub fn fetch_trap<P: Ports>(a: &mut Arch, p: &mut P) -> Did
     requires sound { IsSound a.old }
     requires instructions { a.old.n + 1 < 2 ^ 32 }
     ensures does { Does (P.seen p.old).site.core (P.parts p.old) (fetch_trap (state_of a.old (P.seen p.old))) result (run_seen a.old (P.seen p.old)) (run_seen a.new (P.seen p.new)) }
+    ensures cells { P.struck p.new ≡ cells_after P.read_cell P.write_cell (P.parts p.old) a.old.ctl.cwp (fetch_trap (state_of a.old (P.seen p.old))) result (P.struck p.old) }
     ensures counts { Counts a.old a.new (P.seen p.old) (P.seen p.new) (P.room p.old) (P.room p.new) result }
 {
     let did = trap::take_unread(a, INSTRUCTION_ACCESS_EXCEPTION, p);

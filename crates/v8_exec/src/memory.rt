@@ -1,11 +1,12 @@
-ghost use Rattle.std.specs.Prelude.{◌≡◌, ◌<◌, ◌≤◌, ◌+◌, ◌*◌, ◌^◌, IfOk, IfErr, false, true};
+ghost use Rattle.std.specs.Prelude.{◌≡◌, ◌<◌, ◌≤◌, ◌+◌, ◌*◌, ◌^◌, ℕ, List, [], IfOk, IfErr, false, true};
+ghost use Rattle.lf_model.specs.CellAccess.{written_by};
 ghost use Rattle.lf_model.specs.Start.{touches_text};
 ghost use Rattle.lf_model.specs.Memory.{size_of, load_refused, store_refused, access_misaligned, access_refused, extended, load_effect, load_double_effect, store_effect, output_effect, atomic_effect, stored_number, mem_effect};
 ghost use Rattle.lf_model.specs.State.{register};
 ghost use Rattle.lf_model.specs.Alternate.{is_plain_space, alternate_refused, control_effect};
 ghost use Rattle.lf_model.specs.Step.{IsSound, state_of};
 ghost use Rattle.lf_model.specs.declared.instruction.Instr.TheVariants.{Mem, Alternate};
-ghost use Rattle.v8_exec.specs.Frame.{Keeps, Makes, Performs};
+ghost use Rattle.v8_exec.specs.Frame.{Keeps, Makes, Performs, Touches};
 ghost use Rattle.v8_exec.specs.Accesses.{Asks, Looks, is_atomic_size};
 ghost use Rattle.v8_exec.specs.Reading.{IsSource, HasPair, IsAccess};
 
@@ -102,6 +103,7 @@ fn look<P: Ports>(addr: u32, len: u8, p: &mut P) -> Result<u64, Did>
     ensures looks { Looks (P.parts p.old) addr len (P.seen p.old) (P.seen p.new) result }
     ensures turn { IfErr result (Asks (P.seen p.old).site) }
     ensures fits { IfOk result (λ value. value < 2 ^ (8 * len)) }
+    ensures struck { P.struck p.new ≡ P.struck p.old }
     ensures room { P.room p.old ≤ P.room p.new + 1 }
 {
     let waiting = p.waiting();
@@ -134,6 +136,7 @@ fn load<P: Ports>(a: &mut Arch, name: MemName, addr: u32, rd: u8, p: &mut P) -> 
     requires access { IsAccess (P.seen p.old).site addr (size_of name) }
     requires room { 0 < P.room p.old }
     ensures does { Makes (λ registers. load_effect registers name addr rd (state_of a.old (P.seen p.old))) (P.parts p.old) result a.old a.new (P.seen p.old) (P.seen p.new) }
+    ensures cells { P.struck p.new ≡ written_by P.write_cell result (load_effect [] name addr rd (state_of a.old (P.seen p.old))).writes (P.struck p.old) }
     ensures keeps { Keeps a.old a.new (P.seen p.old) (P.seen p.new) (P.room p.old) (P.room p.new) }
     ensures turn { Asks (P.seen p.old).site result }
 {
@@ -154,6 +157,7 @@ fn load_double<P: Ports>(a: &mut Arch, addr: u32, rd: u8, p: &mut P) -> Did
     requires access { IsAccess (P.seen p.old).site addr 8 }
     requires room { 0 < P.room p.old }
     ensures does { Makes (λ registers. load_double_effect registers addr rd (state_of a.old (P.seen p.old))) (P.parts p.old) result a.old a.new (P.seen p.old) (P.seen p.new) }
+    ensures cells { P.struck p.new ≡ written_by P.write_cell result (load_double_effect [] addr rd (state_of a.old (P.seen p.old))).writes (P.struck p.old) }
     ensures keeps { Keeps a.old a.new (P.seen p.old) (P.seen p.new) (P.room p.old) (P.room p.new) }
     ensures turn { Asks (P.seen p.old).site result }
 {
@@ -177,6 +181,7 @@ fn store<P: Ports>(a: &mut Arch, name: MemName, addr: u32, rd: u8, value: u64, p
     requires text { touches_text (P.seen p.old).site.image.text addr (size_of name) ≡ false }
     requires room { 0 < P.room p.old }
     ensures does { Makes (λ registers. store_effect registers name addr rd (state_of a.old (P.seen p.old))) (P.parts p.old) result a.old a.new (P.seen p.old) (P.seen p.new) }
+    ensures cells { P.struck p.new ≡ written_by P.write_cell result (store_effect [] name addr rd (state_of a.old (P.seen p.old))).writes (P.struck p.old) }
     ensures keeps { Keeps a.old a.new (P.seen p.old) (P.seen p.new) (P.room p.old) (P.room p.new) }
     ensures turn { Asks (P.seen p.old).site result }
 {
@@ -194,6 +199,7 @@ fn output<P: Ports>(a: &mut Arch, rd: u8, value: u64, p: &mut P) -> Did
     requires number { value ≡ register (state_of a.old (P.seen p.old)) rd }
     requires room { 0 < P.room p.old }
     ensures does { Makes (λ registers. output_effect registers rd (state_of a.old (P.seen p.old))) (P.parts p.old) result a.old a.new (P.seen p.old) (P.seen p.new) }
+    ensures cells { P.struck p.new ≡ written_by P.write_cell result (output_effect [] rd (state_of a.old (P.seen p.old))).writes (P.struck p.old) }
     ensures keeps { Keeps a.old a.new (P.seen p.old) (P.seen p.new) (P.room p.old) (P.room p.new) }
     ensures turn { Asks (P.seen p.old).site result }
 {
@@ -211,6 +217,7 @@ fn atomic<P: Ports>(a: &Arch, name: MemName, addr: u32, rd: u8, value: u32, p: &
     requires fits { value < 2 ^ (8 * size_of name) }
     requires number { value ≡ stored_number name rd (state_of a.now (P.seen p.now)) }
     ensures does { Makes (λ registers. atomic_effect registers name addr rd (state_of a.now (P.seen p.now))) (P.parts p.now) result a.now a.now (P.seen p.now) (P.seen p.now) }
+    ensures cells { P.struck p.now ≡ written_by P.write_cell result (atomic_effect [] name addr rd (state_of a.now (P.seen p.now))).writes (P.struck p.now) }
     ensures turn { Asks (P.seen p.now).site result }
 {
     if p.waiting() {
@@ -236,6 +243,7 @@ fn make<P: Ports>(a: &mut Arch, name: MemName, rd: u8, x: Request, p: &mut P) ->
     requires accepted { access_refused (P.seen p.old).site name x.addr ≡ false }
     requires room { 0 < P.room p.old }
     ensures does { Makes (λ registers. mem_effect registers name x.addr rd (state_of a.old (P.seen p.old))) (P.parts p.old) result a.old a.new (P.seen p.old) (P.seen p.new) }
+    ensures cells { (registers : List ℕ) → P.struck p.new ≡ written_by P.write_cell result (mem_effect registers name x.addr rd (state_of a.old (P.seen p.old))).writes (P.struck p.old) }
     ensures keeps { Keeps a.old a.new (P.seen p.old) (P.seen p.new) (P.room p.old) (P.room p.new) }
     ensures turn { Asks (P.seen p.old).site result }
 {
@@ -262,6 +270,7 @@ pub fn access<P: Ports>(a: &mut Arch, name: MemName, rd: u8, rs1: u8, src: Src, 
     requires pair { HasPair name rd }
     requires room { 0 < P.room p.old }
     ensures does { Performs (Mem name rd rs1 src) (P.parts p.old) result a.old a.new (P.seen p.old) (P.seen p.new) }
+    ensures cells { Touches P.read_cell P.write_cell (Mem name rd rs1 src) (P.parts p.old) result a.old (P.seen p.old) (P.struck p.old) (P.struck p.new) }
     ensures keeps { Keeps a.old a.new (P.seen p.old) (P.seen p.new) (P.room p.old) (P.room p.new) }
     ensures turn { Asks (P.seen p.old).site result }
 {
@@ -285,6 +294,7 @@ fn control<P: Ports>(a: &mut Arch, name: MemName, rd: u8, p: &mut P) -> Did
     requires sound { IsSound a.old }
     requires register { rd < 32 }
     ensures does { Makes (λ registers. control_effect registers name rd (state_of a.old (P.seen p.old))) (P.parts p.old) result a.old a.new (P.seen p.old) (P.seen p.new) }
+    ensures cells { (registers : List ℕ) → P.struck p.new ≡ written_by P.write_cell result (control_effect registers name rd (state_of a.old (P.seen p.old))).writes (P.struck p.old) }
     ensures keeps { Keeps a.old a.new (P.seen p.old) (P.seen p.new) (P.room p.old) (P.room p.new) }
     ensures turn { Asks (P.seen p.old).site result }
 {
@@ -312,6 +322,7 @@ pub fn alternate<P: Ports>(
     requires pair { HasPair name rd }
     requires room { 0 < P.room p.old }
     ensures does { Performs (Alternate name rd rs1 rs2 asi) (P.parts p.old) result a.old a.new (P.seen p.old) (P.seen p.new) }
+    ensures cells { Touches P.read_cell P.write_cell (Alternate name rd rs1 rs2 asi) (P.parts p.old) result a.old (P.seen p.old) (P.struck p.old) (P.struck p.new) }
     ensures keeps { Keeps a.old a.new (P.seen p.old) (P.seen p.new) (P.room p.old) (P.room p.new) }
     ensures turn { Asks (P.seen p.old).site result }
 {

@@ -1,6 +1,8 @@
-ghost use Rattle.std.specs.Prelude.{◌≡◌, ◌*◌, ◌^◌, ◌<◌, ◌≤◌, IfOk, IfErr};
+ghost use Rattle.std.specs.Prelude.{◌≡◌, ◌*◌, ◌^◌, ◌<◌, ◌≤◌, ◌++◌, IfOk, IfErr};
 ghost use Rattle.lf_num.specs.Bits.{sign_extended};
-ghost use Rattle.lf_model.specs.Instructions.{stored_registers};
+ghost use Rattle.lf_model.specs.CellAccess.{after_register, after_registers, after_cells};
+ghost use Rattle.lf_model.specs.Effect.{cell_written};
+ghost use Rattle.lf_model.specs.Instructions.{operand_registers, src_registers, stored_registers};
 ghost use Rattle.lf_model.specs.Memory.{size_of, stored_number};
 ghost use Rattle.lf_model.specs.State.{with_register};
 ghost use Rattle.lf_model.specs.Step.{state_of};
@@ -29,6 +31,7 @@ fn extended(simm13: u32) -> u32
 }
 
 /// Register `n` of the current window, where register 0 is 0.
+#[tactic(auto, unfolding(lf_model::specs::CellAccess::after_register))]
 pub fn read_register<P: Ports>(a: &Arch, n: u8, p: &mut P) -> Result<u32, RegBad>
     requires window { a.now.ctl.cwp < 8 }
     requires register { n < 32 }
@@ -36,6 +39,7 @@ pub fn read_register<P: Ports>(a: &Arch, n: u8, p: &mut P) -> Result<u32, RegBad
     ensures read { ReadsRegister (P.parts p.old) (state_of a.now (P.seen p.old)) n result }
     ensures seen { P.seen p.new ≡ P.seen p.old }
     ensures parts { P.parts p.new ≡ P.parts p.old }
+    ensures cells { P.struck p.new ≡ after_register P.read_cell a.now.ctl.cwp n (P.struck p.old) }
     ensures room { P.room p.old ≤ P.room p.new }
 {
     if n == 0 {
@@ -52,6 +56,7 @@ fn read_source<P: Ports>(a: &Arch, src: Src, p: &mut P) -> Result<u32, RegBad>
     ensures read { ReadsSource (P.parts p.old) (state_of a.now (P.seen p.old)) src result }
     ensures seen { P.seen p.new ≡ P.seen p.old }
     ensures parts { P.parts p.new ≡ P.parts p.old }
+    ensures cells { P.struck p.new ≡ after_registers P.read_cell (P.parts p.old) a.now.ctl.cwp (src_registers src) (P.struck p.old) }
     ensures room { P.room p.old ≤ P.room p.new }
 {
     match src {
@@ -69,6 +74,7 @@ pub fn read_operands<P: Ports>(a: &Arch, rs1: u8, src: Src, p: &mut P) -> Result
     ensures read { ReadsOperands (P.parts p.old) (state_of a.now (P.seen p.old)) rs1 src result }
     ensures seen { P.seen p.new ≡ P.seen p.old }
     ensures parts { P.parts p.new ≡ P.parts p.old }
+    ensures cells { P.struck p.new ≡ after_registers P.read_cell (P.parts p.old) a.now.ctl.cwp (operand_registers rs1 src) (P.struck p.old) }
     ensures room { P.room p.old ≤ P.room p.new }
 {
     let first = read_register(a, rs1, p)?;
@@ -86,6 +92,7 @@ pub fn write_register<P: Ports>(a: &Arch, n: u8, value: u32, p: &mut P)
     ensures state { state_of a.now (P.seen p.new) ≡ with_register n value (state_of a.now (P.seen p.old)) }
     ensures site { (P.seen p.new).site ≡ (P.seen p.old).site }
     ensures ops { (P.seen p.new).ops ≡ (P.seen p.old).ops }
+    ensures cells { P.struck p.new ≡ after_cells P.write_cell (cell_written (state_of a.now (P.seen p.old)) n) (P.struck p.old) }
     ensures room { P.room p.old ≤ P.room p.new }
 {
     if n != 0 {
@@ -110,6 +117,7 @@ fn read_number<P: Ports>(a: &Arch, name: MemName, rd: u8, p: &mut P) -> Result<u
     ensures fits { IfOk result (λ value. value < 2 ^ (8 * size_of name)) }
     ensures seen { P.seen p.new ≡ P.seen p.old }
     ensures parts { P.parts p.new ≡ P.parts p.old }
+    ensures cells { P.struck p.new ≡ after_registers P.read_cell (P.parts p.old) a.now.ctl.cwp (stored_registers name rd) (P.struck p.old) }
     ensures room { P.room p.old ≤ P.room p.new }
 {
     match name {
@@ -144,6 +152,7 @@ pub fn read_request<P: Ports>(
     ensures fits { IfOk result (λ x. x.value < 2 ^ (8 * size_of name)) }
     ensures seen { P.seen p.new ≡ P.seen p.old }
     ensures parts { P.parts p.new ≡ P.parts p.old }
+    ensures cells { P.struck p.new ≡ after_registers P.read_cell (P.parts p.old) a.now.ctl.cwp (operand_registers rs1 src ++ stored_registers name rd) (P.struck p.old) }
     ensures room { P.room p.old ≤ P.room p.new }
 {
     let operands = read_operands(a, rs1, src, p)?;

@@ -1,4 +1,4 @@
-ghost use Rattle.std.specs.Prelude.{◌≡◌, ◌≢◌, ℕ, ◌+◌, ◌*◌, ◌^◌, ◌<◌, ◌≤◌, ◌++◌, ◌∷◌, [], slice_set, is_ok, is_err, false};
+ghost use Rattle.std.specs.Prelude.{◌≡◌, ℕ, ◌+◌, ◌*◌, ◌^◌, ◌<◌, ◌≤◌, ◌++◌, ◌∷◌, [], slice_set, None, is_ok, is_err, false};
 ghost use Rattle.lf_model.specs.Start.{is_in_ram, touches_text};
 ghost use Rattle.lf_model.specs.Step.{reading, after_look, after_store};
 ghost use Rattle.v8_exec.specs.Reading.{FitsLook, IsAccess};
@@ -23,20 +23,33 @@ pub trait Ports {
     /// How many more operations and bytes of output can be recorded.
     ghost room: { Self → ℕ };
 
+    /// What flips left in the register cells. Only `reg` and `set_reg` change it.
+    ghost Struck: { Type 0 };
+
+    /// What flips left in the register cells of these ports.
+    ghost struck: { Self → Struck };
+
+    /// The same once this cell is read: one turned bit is put right, and the cell is written back.
+    ghost read_cell: { ℕ → Struck → Struck };
+
+    /// The same once this cell is written.
+    ghost write_cell: { ℕ → Struck → Struck };
+
     /// Reads a register cell. One that reads bad is answered with its syndrome.
     fn reg(&mut self, cell: usize) -> Result<u32, RegBad>
         requires { cell < 136 }
         ensures answer { result ≡ reading (parts self.old) (seen self.old).cells cell }
         ensures seen { seen self.new ≡ seen self.old }
         ensures parts { parts self.new ≡ parts self.old }
+        ensures struck { struck self.new ≡ read_cell cell (struck self.old) }
         ensures room { room self.old ≤ room self.new };
 
     /// Writes a register cell, which then reads well.
     fn set_reg(&mut self, cell: usize, v: u32)
         requires { cell < 136 }
         ensures seen { seen self.new ≡ record (seen self.old) { cells = slice_set (seen self.old).cells cell v } }
-        ensures written { (parts self.new).bad cell ≡ None }
-        ensures others { (c : ℕ) → c ≢ cell → (parts self.new).bad c ≡ (parts self.old).bad c }
+        ensures parts { parts self.new ≡ record (parts self.old) { bad = slice_set (parts self.old).bad cell None } }
+        ensures struck { struck self.new ≡ write_cell cell (struck self.old) }
         ensures room { room self.old ≤ room self.new };
 
     /// Looks an address up in the data cache. A hit is a load, and is recorded.
@@ -46,6 +59,7 @@ pub trait Ports {
         ensures answer { result ≡ (parts self.old).look addr len }
         ensures fits { FitsLook len result }
         ensures seen { seen self.new ≡ after_look addr len result (seen self.old) }
+        ensures struck { struck self.new ≡ struck self.old }
         ensures room { room self.old ≤ room self.new + 1 };
 
     /// Puts a store into the store buffer and records it, unless the buffer is full.
@@ -56,6 +70,7 @@ pub trait Ports {
         requires value { value < 2 ^ (8 * len) }
         ensures full { is_err result ≡ (parts self.old).full }
         ensures seen { seen self.new ≡ after_store addr len value (is_ok result) (seen self.old) }
+        ensures struck { struck self.new ≡ struck self.old }
         ensures room { room self.old ≤ room self.new + 1 };
 
     /// A store waits in the store buffer.
@@ -74,11 +89,13 @@ pub trait Ports {
     fn out(&mut self, byte: u8)
         requires { 0 < room self.old }
         ensures seen { seen self.new ≡ record (seen self.old) { out = (seen self.old).out ++ byte ∷ [] } }
+        ensures struck { struck self.new ≡ struck self.old }
         ensures room { room self.old ≤ room self.new + 1 };
 
     /// Empties both caches.
     fn flush(&mut self)
         ensures empty { caches_empty self.new }
         ensures seen { seen self.new ≡ seen self.old }
+        ensures struck { struck self.new ≡ struck self.old }
         ensures room { room self.old ≤ room self.new };
 }

@@ -4,7 +4,7 @@ ghost use Rattle.std.specs.Prelude.{◌≡◌, not};
 ghost use Rattle.lf_model.specs.Traps.{no_checks};
 ghost use Rattle.lf_model.specs.Step.{IsSound};
 ghost use Rattle.lf_model.specs.declared.instruction.Instr.TheVariants.{Illegal, AltIllegal, FpOff, CpOff, FpQueue, CpQueue};
-ghost use Rattle.v8_exec.specs.Frame.{Keeps, Performs};
+ghost use Rattle.v8_exec.specs.Frame.{Keeps, Performs, Touches};
 
 use crate::ports::Ports;
 use crate::trap;
@@ -27,6 +27,7 @@ fn privileged(a: &Arch) -> Checks
 pub fn illegal<P: Ports>(a: &mut Arch, p: &mut P) -> Did
     requires sound { IsSound a.old }
     ensures does { Performs Illegal (P.parts p.old) result a.old a.new (P.seen p.old) (P.seen p.new) }
+    ensures cells { Touches P.read_cell P.write_cell Illegal (P.parts p.old) result a.old (P.seen p.old) (P.struck p.old) (P.struck p.new) }
     ensures keeps { Keeps a.old a.new (P.seen p.old) (P.seen p.new) (P.room p.old) (P.room p.new) }
 {
     let checks = Checks {
@@ -41,6 +42,7 @@ pub fn illegal<P: Ports>(a: &mut Arch, p: &mut P) -> Did
 pub fn illegal_alternate<P: Ports>(a: &mut Arch, p: &mut P) -> Did
     requires sound { IsSound a.old }
     ensures does { Performs AltIllegal (P.parts p.old) result a.old a.new (P.seen p.old) (P.seen p.new) }
+    ensures cells { Touches P.read_cell P.write_cell AltIllegal (P.parts p.old) result a.old (P.seen p.old) (P.struck p.old) (P.struck p.new) }
     ensures keeps { Keeps a.old a.new (P.seen p.old) (P.seen p.new) (P.room p.old) (P.room p.new) }
 {
     let checks = Checks {
@@ -55,6 +57,7 @@ pub fn illegal_alternate<P: Ports>(a: &mut Arch, p: &mut P) -> Did
 pub fn floating_point<P: Ports>(a: &mut Arch, p: &mut P) -> Did
     requires sound { IsSound a.old }
     ensures does { Performs FpOff (P.parts p.old) result a.old a.new (P.seen p.old) (P.seen p.new) }
+    ensures cells { Touches P.read_cell P.write_cell FpOff (P.parts p.old) result a.old (P.seen p.old) (P.struck p.old) (P.struck p.new) }
     ensures keeps { Keeps a.old a.new (P.seen p.old) (P.seen p.new) (P.room p.old) (P.room p.new) }
 {
     let checks = Checks {
@@ -69,6 +72,7 @@ pub fn floating_point<P: Ports>(a: &mut Arch, p: &mut P) -> Did
 pub fn floating_point_queue<P: Ports>(a: &mut Arch, p: &mut P) -> Did
     requires sound { IsSound a.old }
     ensures does { Performs FpQueue (P.parts p.old) result a.old a.new (P.seen p.old) (P.seen p.new) }
+    ensures cells { Touches P.read_cell P.write_cell FpQueue (P.parts p.old) result a.old (P.seen p.old) (P.struck p.old) (P.struck p.new) }
     ensures keeps { Keeps a.old a.new (P.seen p.old) (P.seen p.new) (P.room p.old) (P.room p.new) }
 {
     let checks = Checks {
@@ -83,6 +87,7 @@ pub fn floating_point_queue<P: Ports>(a: &mut Arch, p: &mut P) -> Did
 pub fn coprocessor<P: Ports>(a: &mut Arch, p: &mut P) -> Did
     requires sound { IsSound a.old }
     ensures does { Performs CpOff (P.parts p.old) result a.old a.new (P.seen p.old) (P.seen p.new) }
+    ensures cells { Touches P.read_cell P.write_cell CpOff (P.parts p.old) result a.old (P.seen p.old) (P.struck p.old) (P.struck p.new) }
     ensures keeps { Keeps a.old a.new (P.seen p.old) (P.seen p.new) (P.room p.old) (P.room p.new) }
 {
     let checks = Checks {
@@ -97,6 +102,7 @@ pub fn coprocessor<P: Ports>(a: &mut Arch, p: &mut P) -> Did
 pub fn coprocessor_queue<P: Ports>(a: &mut Arch, p: &mut P) -> Did
     requires sound { IsSound a.old }
     ensures does { Performs CpQueue (P.parts p.old) result a.old a.new (P.seen p.old) (P.seen p.new) }
+    ensures cells { Touches P.read_cell P.write_cell CpQueue (P.parts p.old) result a.old (P.seen p.old) (P.struck p.old) (P.struck p.new) }
     ensures keeps { Keeps a.old a.new (P.seen p.old) (P.seen p.new) (P.room p.old) (P.room p.new) }
 {
     let checks = Checks {

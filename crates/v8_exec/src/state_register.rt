@@ -4,7 +4,7 @@ ghost use Rattle.lf_model.specs.Instructions.{is_privileged_state};
 ghost use Rattle.lf_model.specs.StateRegisters.{asr_value, state_value, names_no_window, psr_parts, with_state};
 ghost use Rattle.lf_model.specs.Step.{IsSound, Seen, state_of};
 ghost use Rattle.lf_model.specs.declared.instruction.Instr.TheVariants.{ReadState, ReadAsr, WriteState, WriteAsr};
-ghost use Rattle.v8_exec.specs.Frame.{Keeps, Performs};
+ghost use Rattle.v8_exec.specs.Frame.{Keeps, Performs, Touches};
 ghost use Rattle.v8_exec.specs.Reading.{IsSource};
 
 use crate::operands::{read_operands, write_register};
@@ -63,6 +63,7 @@ pub fn read<P: Ports>(a: &mut Arch, name: StateName, rd: u8, p: &mut P) -> Did
     requires sound { IsSound a.old }
     requires register { rd < 32 }
     ensures does { Performs (ReadState name rd) (P.parts p.old) result a.old a.new (P.seen p.old) (P.seen p.new) }
+    ensures cells { Touches P.read_cell P.write_cell (ReadState name rd) (P.parts p.old) result a.old (P.seen p.old) (P.struck p.old) (P.struck p.new) }
     ensures keeps { Keeps a.old a.new (P.seen p.old) (P.seen p.new) (P.room p.old) (P.room p.new) }
 {
     let checks = Checks {
@@ -84,6 +85,7 @@ pub fn read_asr<P: Ports>(a: &mut Arch, rd: u8, number: u8, p: &mut P) -> Did
     requires core { a.old.core ≡ (P.seen p.old).site.core }
     requires register { rd < 32 }
     ensures does { Performs (ReadAsr rd number) (P.parts p.old) result a.old a.new (P.seen p.old) (P.seen p.new) }
+    ensures cells { Touches P.read_cell P.write_cell (ReadAsr rd number) (P.parts p.old) result a.old (P.seen p.old) (P.struck p.old) (P.struck p.new) }
     ensures keeps { Keeps a.old a.new (P.seen p.old) (P.seen p.new) (P.room p.old) (P.room p.new) }
 {
     write_register(a, rd, asr_value(a.core, number), p);
@@ -143,6 +145,7 @@ pub fn write<P: Ports>(a: &mut Arch, name: StateName, rs1: u8, src: Src, p: &mut
     requires register { rs1 < 32 }
     requires fields { IsSource src }
     ensures does { Performs (WriteState name rs1 src) (P.parts p.old) result a.old a.new (P.seen p.old) (P.seen p.new) }
+    ensures cells { Touches P.read_cell P.write_cell (WriteState name rs1 src) (P.parts p.old) result a.old (P.seen p.old) (P.struck p.old) (P.struck p.new) }
     ensures keeps { Keeps a.old a.new (P.seen p.old) (P.seen p.new) (P.room p.old) (P.room p.new) }
 {
     let value = match read_operands(a, rs1, src, p) {
@@ -169,6 +172,7 @@ pub fn write_asr<P: Ports>(a: &mut Arch, number: u8, rs1: u8, src: Src, p: &mut 
     requires register { rs1 < 32 }
     requires fields { IsSource src }
     ensures does { Performs (WriteAsr number rs1 src) (P.parts p.old) result a.old a.new (P.seen p.old) (P.seen p.new) }
+    ensures cells { Touches P.read_cell P.write_cell (WriteAsr number rs1 src) (P.parts p.old) result a.old (P.seen p.old) (P.struck p.old) (P.struck p.new) }
     ensures keeps { Keeps a.old a.new (P.seen p.old) (P.seen p.new) (P.room p.old) (P.room p.new) }
 {
     if let Err(bad) = read_operands(a, rs1, src, p) {

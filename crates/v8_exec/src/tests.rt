@@ -3,6 +3,7 @@ ghost use Rattle.std.specs.Vec.{vec_capacity};
 ghost use Rattle.lf_model.specs.Step.{IsSound};
 
 use crate::{Arch, Ctl, Did, Ports, Turn, cell, exec, fetch_trap};
+use cells::{Touch, Touched};
 use lf_model::addresses;
 use lf_model::bus::{Entry, OpKind, Why};
 use lf_model::image::{Image, Range, Ranges, Segments};
@@ -12,6 +13,7 @@ use std::process::Abort;
 use std::test::Fail;
 
 mod accesses;
+mod cells;
 mod windows;
 
 /// PC, and nPC, which is not the next word.
@@ -32,12 +34,14 @@ fn of_registers(op3: u32) -> u32
     0x8600_4002 + (op3 << 19)
 }
 
-/// Registers that read well, no store that waits, and an image with text at 40000800 hex. Where it grants, the data
-/// cache hits and reads the first bytes of `memory` at each address, and the store buffer has room; else the cache
-/// misses, and the buffer is full.
+/// Registers with the syndromes of those that read bad, no store that waits, and an image with text at 40000800 hex.
+/// Where it grants, the data cache hits and reads the first bytes of `memory` at each address, and the store buffer has
+/// room; else the cache misses, and the buffer is full.
 #[derive(Drop)]
 struct Bench {
     cells: [u32; 136],
+    bad: [Option<u8>; 136],
+    touched: Touched,
     out: Vec<u8>,
     ops: Vec<Entry>,
     image: Image,
@@ -53,7 +57,7 @@ impl Bench {
         ensures ops { self.new.ops.items ≡ self.old.ops.items ++ record { got = got; put = put; core = 3; k = vec_len self.old.ops; addr = addr; kind = kind; len = len } ∷ [] }
         ensures room { vec_capacity self.old.ops ≤ vec_capacity self.new.ops }
         ensures len { vec_len self.new.ops ≡ vec_len self.old.ops + 1 }
-        ensures others { (self.new.cells ≡ self.old.cells) × (self.new.out ≡ self.old.out) × (self.new.image ≡ self.old.image) }
+        ensures others { (self.new.cells ≡ self.old.cells) × (self.new.touched ≡ self.old.touched) × (self.new.out ≡ self.old.out) × (self.new.image ≡ self.old.image) }
     {
         let entry = Entry {
             got,
@@ -85,25 +89,41 @@ fn front(memory: u64, len: u8) -> u64
 }
 
 impl Ports for Bench {
-    ghost use Rattle.std.specs.Prelude.{◌≡◌, ◌-◌, ◌/◌, ◌^◌, ◌==◌, min, None, true, false, vec_len, if◌then◌else◌};
+    ghost use Rattle.std.specs.Prelude.{◌≡◌, ◌+◌, ◌-◌, ◌/◌, ◌%◌, ◌^◌, ◌==◌, min, true, false, vec_len, slice_set, if◌then◌else◌};
     ghost use Rattle.std.specs.Vec.{vec_capacity};
     ghost use Rattle.lf_model.specs.declared.bus.Why.TheVariants as whys;
     ghost use Rattle.lf_model.specs.declared.step.Look.TheVariants.{Hit, Miss};
+    ghost use Rattle.v8_exec.specs.declared.tests.cells.Touched.{Touched};
+    ghost use Rattle.v8_exec.specs.declared.tests.cells.Touch.TheVariants as touch;
 
     ghost seen = { λ p. record { site = record { core = 3; image = p.image; ram = 4096 }; cells = p.cells; out = p.out.items; ops = p.ops.items } };
 
-    ghost parts = { λ p. record { bad = λ c. None; look = λ addr len. if p.grants then Hit (if len == 1 then p.memory / 2 ^ 56 else (if len == 2 then p.memory / 2 ^ 48 else (if len == 4 then p.memory / 2 ^ 32 else (if len == 8 then p.memory else 0)))) 0 else Miss whys.Absent; full = if p.grants then false else true; waiting = false } };
+    ghost parts = { λ p. record { bad = p.bad; look = λ addr len. if p.grants then Hit (if len == 1 then p.memory / 2 ^ 56 else (if len == 2 then p.memory / 2 ^ 48 else (if len == 4 then p.memory / 2 ^ 32 else (if len == 8 then p.memory else 0)))) 0 else Miss whys.Absent; full = if p.grants then false else true; waiting = false } };
 
     ghost caches_empty = { λ p. p.flushed ≡ true };
 
     ghost room = { λ p. min (min (vec_capacity p.ops - vec_len p.ops) (2 ^ 32 - 1 - vec_len p.ops)) (vec_capacity p.out - vec_len p.out) };
 
+    ghost Struck = { Touched };
+
+    ghost struck = { λ p. p.touched };
+
+    ghost read_cell = { λ cell x. record { touches = slice_set x.touches (x.count % 8) (touch.Read cell); count = (x.count + 1) % 2 ^ 8 } };
+
+    ghost write_cell = { λ cell x. record { touches = slice_set x.touches (x.count % 8) (touch.Written cell); count = (x.count + 1) % 2 ^ 8 } };
+
     fn reg(&mut self, cell: usize) -> Result<u32, RegBad> {
-        Ok(self.cells[cell])
+        self.touched.add(Touch::Read(cell));
+        match self.bad[cell] {
+            None => Ok(self.cells[cell]),
+            Some(syn) => Err(RegBad { cell, syn }),
+        }
     }
 
     fn set_reg(&mut self, cell: usize, v: u32) {
+        self.touched.add(Touch::Written(cell));
         self.cells[cell] = v;
+        self.bad[cell] = None;
     }
 
     fn load(&mut self, addr: u32, len: u8) -> Look {
@@ -214,6 +234,8 @@ fn bench_of(alloc: Global, start: Start) -> Result<Bench, AllocError>
     })?;
     Ok(Bench {
         cells,
+        bad: [None; 136],
+        touched: Touched::none(),
         out: Vec::with_capacity(alloc, 1)?,
         ops: Vec::with_capacity(alloc, 1)?,
         image: Image {

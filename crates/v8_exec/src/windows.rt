@@ -1,11 +1,12 @@
-ghost use Rattle.std.specs.Prelude.{◌≡◌, ◌<◌, IfOk, IfErr, OnOk, None, Some};
+ghost use Rattle.std.specs.Prelude.{◌≡◌, ◌<◌, [], IfOk, IfErr, OnOk, None, Some};
+ghost use Rattle.lf_model.specs.CellAccess.{written_by};
 ghost use Rattle.lf_model.specs.Effect.{sets};
 ghost use Rattle.lf_model.specs.Traps.{traps_in_order};
 ghost use Rattle.lf_model.specs.Traps.{first_trap as first_of};
 ghost use Rattle.lf_model.specs.Windows.{in_window, window_after_restore};
 ghost use Rattle.lf_model.specs.Step.{IsSound, state_of};
 ghost use Rattle.lf_model.specs.declared.instruction.Instr.TheVariants.{Save, Restore, Rett};
-ghost use Rattle.v8_exec.specs.Frame.{Keeps, Makes, Performs};
+ghost use Rattle.v8_exec.specs.Frame.{Keeps, Makes, Performs, Touches};
 ghost use Rattle.v8_exec.specs.Reading.{IsSource};
 ghost use Rattle.v8_exec.specs.Returning.{return_checks};
 
@@ -25,6 +26,7 @@ fn enter<P: Ports>(a: &mut Arch, window: u8, rd: u8, sum: u32, p: &mut P) -> Did
     requires window { window < 8 }
     requires register { rd < 32 }
     ensures does { Makes (λ registers. sets registers rd sum (in_window window (state_of a.old (P.seen p.old)))) (P.parts p.old) result a.old a.new (P.seen p.old) (P.seen p.new) }
+    ensures cells { P.struck p.new ≡ written_by P.write_cell result (sets [] rd sum (in_window window (state_of a.old (P.seen p.old)))).writes (P.struck p.old) }
     ensures keeps { Keeps a.old a.new (P.seen p.old) (P.seen p.new) (P.room p.old) (P.room p.new) }
 {
     a.ctl.cwp = window;
@@ -40,6 +42,7 @@ pub fn save<P: Ports>(a: &mut Arch, rd: u8, rs1: u8, src: Src, p: &mut P) -> Did
     requires registers { (rd < 32) × (rs1 < 32) }
     requires fields { IsSource src }
     ensures does { Performs (Save rd rs1 src) (P.parts p.old) result a.old a.new (P.seen p.old) (P.seen p.new) }
+    ensures cells { Touches P.read_cell P.write_cell (Save rd rs1 src) (P.parts p.old) result a.old (P.seen p.old) (P.struck p.old) (P.struck p.new) }
     ensures keeps { Keeps a.old a.new (P.seen p.old) (P.seen p.new) (P.room p.old) (P.room p.new) }
 {
     let sum = match read_operands(a, rs1, src, p) {
@@ -59,6 +62,7 @@ pub fn restore<P: Ports>(a: &mut Arch, rd: u8, rs1: u8, src: Src, p: &mut P) -> 
     requires registers { (rd < 32) × (rs1 < 32) }
     requires fields { IsSource src }
     ensures does { Performs (Restore rd rs1 src) (P.parts p.old) result a.old a.new (P.seen p.old) (P.seen p.new) }
+    ensures cells { Touches P.read_cell P.write_cell (Restore rd rs1 src) (P.parts p.old) result a.old (P.seen p.old) (P.struck p.old) (P.struck p.new) }
     ensures keeps { Keeps a.old a.new (P.seen p.old) (P.seen p.new) (P.room p.old) (P.room p.new) }
 {
     let sum = match read_operands(a, rs1, src, p) {
@@ -101,6 +105,7 @@ pub fn return_from_trap<P: Ports>(a: &mut Arch, rs1: u8, src: Src, p: &mut P) ->
     requires register { rs1 < 32 }
     requires fields { IsSource src }
     ensures does { Performs (Rett rs1 src) (P.parts p.old) result a.old a.new (P.seen p.old) (P.seen p.new) }
+    ensures cells { Touches P.read_cell P.write_cell (Rett rs1 src) (P.parts p.old) result a.old (P.seen p.old) (P.struck p.old) (P.struck p.new) }
     ensures keeps { Keeps a.old a.new (P.seen p.old) (P.seen p.new) (P.room p.old) (P.room p.new) }
 {
     let target = match read_operands(a, rs1, src, p) {

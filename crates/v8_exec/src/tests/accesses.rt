@@ -1,6 +1,6 @@
 ghost use Rattle.std.specs.Prelude.{◌<◌};
 
-use super::{NPC, Outcome, Start, ZEROS, arch_of, bench_of, made};
+use super::{NPC, Outcome, Start, Touch, ZEROS, arch_of, bench_of, made};
 use crate::{Did, Turn, finish_atomic};
 use lf_model::bus::OpKind;
 use std::alloc::{AllocError, Global};
@@ -120,6 +120,7 @@ fn atomics(rt: HostRuntime) -> Result<(), Fail> {
     let mut bench = bench_of(rt.alloc(), ZEROS)?;
     finish_atomic(&mut arch, 2, 0x80, &mut bench);
     assert_eq!(rt; bench.cells[2], 0x80);
+    assert!(rt; matches!(bench.touched.list(), [Touch::Written(2)]));
     assert_eq!(rt; (arch.ctl.pc, arch.n, arch.k), (NPC, 1, 1));
     Ok(())
 }
