@@ -1,14 +1,14 @@
 -- What an instruction asks of its core: a trap, or at most one access to bytes of RAM.
-use Rattle.std.proofs.Common.{◌≡◌, ℕ, ◌==◌, ◌%◌, Bool, true, false, ◌&&◌, ◌||◌, not, List, [], ◌∷◌, Option, Some, None, cond, refl, ap, sym, subst, ◌∙◌, inl, inr, ◌⊎◌, IsTrue}
-use Rattle.std.proofs.lemmas.Bool.{cases_Bool, or_parts, eqb-true}
+use Rattle.std.proofs.Common.{◌≡◌, ℕ, ◌==◌, ◌%◌, Bool, true, false, ◌&&◌, ◌||◌, not, List, [], ◌∷◌, Option, Some, None, cond, refl, ap, inl, inr, ◌⊎◌, IsTrue}
+use Rattle.std.proofs.lemmas.Bool.{or_parts, eqb-true}
 use Rattle.lf_model.specs.Start.{is_text_word, word_at, output_word, is_in_ram, touches_text}
 use Rattle.lf_model.specs.Instructions.{registers_read, instruction_of}
 use Rattle.lf_model.specs.State.{State}
 use Rattle.lf_model.specs.Effect.{Site, Access, Effect, sum_of_operands}
 use Rattle.lf_model.specs.Traps.{when, first_trap, traps_in_order, trap_effect, unless_trap, fetch_trap}
 use Rattle.lf_model.specs.Memory.{size_of, access_misaligned, access_refused, output_effect, store_effect, mem_effect}
-use Rattle.lf_model.specs.Alternate.{is_plain_space, is_control_space, is_word_form, control_effect, alternate_effect, alternate_refused}
-use Rattle.lf_model.specs.OrdinaryTraps.{ordinary_trap, checks_of, is_misaligned, is_refused}
+use Rattle.lf_model.specs.Alternate.{is_plain_space, is_control_space, is_word_form, control_effect}
+use Rattle.lf_model.specs.OrdinaryTraps.{ordinary_trap, checks_of}
 use Rattle.lf_model.specs.Effects.{completed, effect}
 use Rattle.lf_model.specs.Run.{site_of, effect_at_pc}
 use Rattle.lf_model.specs.declared.setup.Setup.{Setup}

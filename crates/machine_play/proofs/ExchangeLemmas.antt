@@ -1,13 +1,11 @@
 -- What is known of the machine after the turn of an atomic, and once the instruction is finished.
-use Rattle.std.proofs.Common.{◌≡◌, ℕ, ◌+◌, ◌-◌, ◌*◌, ◌%◌, ◌^◌, ◌<◌, ◌≤◌, ◌==◌, refl, ap, sym, subst, ◌∙◌, arith, inl, inr, ◌⊎◌, Bool, true, false, List, [], ◌∷◌, ◌++◌, length, Option, Some, None, Vec, vec_len, IsTrue, is_some}
-use Rattle.std.specs.Vec.{vec_capacity}
+use Rattle.std.proofs.Common.{◌≡◌, ℕ, ◌+◌, ◌-◌, ◌%◌, ◌≤◌, refl, ap, sym, subst, ◌∙◌, arith, inl, inr, ◌⊎◌, List, [], ◌∷◌, ◌++◌, length, Option, Some, None, Vec, vec_len, IsTrue}
 use Rattle.std.specs.declared.alloc.Global.{Global}
 use Rattle.std.proofs.lemmas.Bool.{cases_eq}
 use Rattle.std.proofs.lemmas.Bool.Decides.{nat_tests}
 use Rattle.lf_model.specs.Start.{initial_byte}
 use Rattle.lf_model.specs.Effect.{Access, Effect, Site}
 use Rattle.lf_model.specs.Effects.{effect}
-use Rattle.lf_model.specs.Operation.{touches, byte_got}
 use Rattle.lf_model.specs.Run.{Run, operation, performed, site_of, effect_at_pc}
 use Rattle.lf_model.specs.Step.{Parts as Answers, IsSound, Seen, state_of, run_seen, recorded, came_to}
 use Rattle.lf_model.specs.declared.bus.Entry.{Entry}
@@ -29,7 +27,7 @@ use Rattle.machine_play.specs.declared.parts.Parts.{Parts}
 use Rattle.machine_play.specs.Memory.{NumberedFrom, ReadsEach, RunIs, HasBytes}
 use Rattle.machine_play.specs.Hand.{parts_with}
 use Rattle.machine_play.specs.Seen.{seen_of, run_of, room_of}
-use Rattle.machine_play.specs.Core.{IsCore, HandFits}
+use Rattle.machine_play.specs.Core.{HandFits}
 use Rattle.machine_play.specs.Machine.{op_in, in_turn, IsBusOf, in_hand, AreTurns, Going}
 use Rattle.machine_play.specs.Midstep.{Exchanging, Finishing, number_read, atomic_entry}
 use Rattle.machine_play.proofs.EffectLemmas.{IsFetched, fetched}
@@ -91,7 +89,7 @@ record HasFinished (setup : Setup) (n : ℕ) (arch arch' : Arch) (seen seen' : S
   pub e : Effect
   pub its : effect_at_pc setup 0 (state_of arch seen) ≡ e
   pub access : e.access ≡ Some (atomic_access addr len put rd)
-  pub answer : came_to (parts_with None) (state_of arch seen) e ≡ Need (Atomic addr len put rd)
+  pub answer : came_to (parts_with [] None) (state_of arch seen) e ≡ Need (Atomic addr len put rd)
   pub finishes : (i : Instr) (parts : Answers) (addr len new : ℕ) → Finishes i parts (Atomic addr len new rd) got arch arch' seen seen'
 
 same_entry : (core core' n n' got : ℕ) (a : Access) → core ≡ core' → n ≡ n' → operation core n got a ≡ operation core' n' got a
@@ -104,8 +102,8 @@ finished_run setup n arch arch' seen seen' addr len put rd got entry h is =
     let a : Access = atomic_access addr len put rd in
     let f : IsFetched setup 0 s = fetched setup 0 s a (ap (λ (x : Effect). x.access) h.its ∙ h.access) in
     let same : effect seen.site s f.i ≡ h.e = ap (λ (site : Site). effect site s f.i) h.site ∙ sym f.is ∙ h.its in
-    let answer : came_to (parts_with None) s (effect seen.site s f.i) ≡ Need (Atomic addr len put rd) = ap (came_to (parts_with None) s) same ∙ h.answer in
-    let done : run_seen arch' (recorded got a seen') ≡ performed seen.site.core got (effect seen.site s f.i) (run_seen arch seen) = h.finishes f.i (parts_with None) addr len put answer in
+    let answer : came_to (parts_with [] None) s (effect seen.site s f.i) ≡ Need (Atomic addr len put rd) = ap (came_to (parts_with [] None) s) same ∙ h.answer in
+    let done : run_seen arch' (recorded got a seen') ≡ performed seen.site.core got (effect seen.site s f.i) (run_seen arch seen) = h.finishes f.i (parts_with [] None) addr len put answer in
     let core : seen.site.core ≡ 0 = ap (λ (site : Site). site.core) h.site in
     let core' : 0 ≡ seen'.site.core = sym (ap (λ (site : Site). site.core) h.site' ∙ core) in
     let recorded_is : run_seen arch' (record seen' { ops = seen'.ops ++ entry ∷ [] }) ≡ run_seen arch' (recorded got a seen') =

@@ -8,6 +8,7 @@ mod CoreLemmas
 mod StoringLemmas
 mod TurnLemmas
 mod StepLemmas
+mod BeginLemmas
 mod ToldLemmas
 mod LineLemmas
 mod StopLemmas
@@ -15,4 +16,9 @@ mod ExchangeLemmas
 mod OutcomeLemmas
 mod StartingLemmas
 mod TraceLemmas
+mod UseLemmas
+mod CellLemmas
+mod PerformLemmas
+mod TurnedLemmas
+mod BlankLemmas
 mod PlayedLemmas

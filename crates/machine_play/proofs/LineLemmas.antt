@@ -1,8 +1,7 @@
 -- What is known of the machine after the turn of a load: its line is in the hand, unless a word that it wants is bad.
-use Rattle.std.proofs.Common.{◌≡◌, ℕ, ◌+◌, ◌-◌, ◌*◌, ◌/◌, ◌%◌, ◌<◌, ◌≤◌, ◌==◌, ◌&&◌, refl, ap, sym, subst, ◌∙◌, arith, inl, inr, ◌⊎◌, get_or, cond, Bool, true, false, List, [], ◌∷◌, ◌++◌, nat_le, length, map, Option, Some, None, IsTrue}
-use Rattle.std.proofs.lemmas.List.{append-nil}
+use Rattle.std.proofs.Common.{◌≡◌, ℕ, ◌+◌, ◌-◌, ◌*◌, ◌/◌, ◌%◌, ◌<◌, ◌≤◌, ◌==◌, ◌&&◌, refl, ap, sym, subst, ◌∙◌, arith, inl, inr, get_or, cond, Bool, true, false, List, [], ◌∷◌, nat_le, length, Option, Some, None, IsTrue}
 use Rattle.std.proofs.lemmas.Option.{get_or_from_slice_get}
-use Rattle.std.proofs.lemmas.Bool.{cases_eq, cases_lt, cases_Bool, and_parts, leb-true, eqb-true}
+use Rattle.std.proofs.lemmas.Bool.{cases_eq, cases_lt, and_parts, leb-true, eqb-true}
 use Rattle.std.proofs.lemmas.Bool.Decides.{nat_tests}
 use Rattle.lf_model.specs.Start.{ram_first, is_in_ram}
 use Rattle.lf_model.specs.Flips.{is_bad_word}
@@ -12,7 +11,6 @@ use Rattle.lf_model.specs.declared.bus.Transfer.{Transfer}
 use Rattle.lf_model.specs.declared.bus.TurnKind.TheVariants.{Load}
 use Rattle.lf_model.specs.declared.bus.Why.TheVariants.{Absent}
 use Rattle.lf_model.specs.declared.setup.Setup.{Setup}
-use Rattle.lf_model.specs.declared.trace.Op.{Op}
 use Rattle.ft_memory.specs.Memory.{place_of}
 use Rattle.ahb_bus.specs.BusState.{BusState, met, fill_made, after_turn, ram_size, ShowsLine}
 use Rattle.machine_play.specs.declared.hand.Hand.{Hand}
@@ -20,7 +18,7 @@ use Rattle.machine_play.specs.declared.machine.Machine.{Machine}
 use Rattle.machine_play.specs.Memory.{HasBytes, byte_after}
 use Rattle.machine_play.specs.Hand.{byte_in, has_bytes}
 use Rattle.machine_play.specs.Core.{FitsRam}
-use Rattle.machine_play.specs.Service.{Service, service_by, service_for, line_of}
+use Rattle.machine_play.specs.Service.{Service, line_of}
 use Rattle.machine_play.specs.Machine.{in_turn, IsBusOf, AreTurns, Going}
 use Rattle.machine_play.specs.Midstep.{Reading}
 use Rattle.machine_play.proofs.MemoryLemmas.{word_byte}

@@ -1,6 +1,7 @@
 -- What an instruction leaves of the machine, by what it came to.
-use Rattle.std.proofs.Common.{◌≡◌, ℕ, ◌+◌, ◌-◌, ◌*◌, ◌^◌, ◌<◌, ◌≤◌, refl, ap, sym, subst, ◌∙◌, arith, List, [], length, Option, Some, None}
+use Rattle.std.proofs.Common.{◌≡◌, ℕ, ◌+◌, ◌-◌, ◌*◌, ◌^◌, ◌<◌, ◌≤◌, ◌==◌, cond, inl, refl, ap, sym, subst, ◌∙◌, arith, List, [], length, Option, Some, None}
 use Rattle.std.specs.List.{AllByRecursion as Each, count_by}
+use Rattle.lf_model.specs.Results.{idle_steps}
 use Rattle.lf_model.specs.Run.{Run}
 use Rattle.lf_model.specs.declared.bus.Entry.{Entry}
 use Rattle.lf_model.specs.declared.bus.Pending.{Pending}
@@ -9,14 +10,14 @@ use Rattle.lf_model.specs.declared.control.Arch.{Arch}
 use Rattle.lf_model.specs.declared.setup.Setup.{Setup}
 use Rattle.lf_model.specs.declared.trace.Op.{Op}
 use Rattle.lf_model.specs.declared.trace.Word2.{Word2}
-use Rattle.lf_model.specs.declared.trace.CoreEnd.TheVariants.{Halt, Limit}
+use Rattle.lf_model.specs.declared.trace.CoreEnd.TheVariants.{Halt, Stop, Limit}
 use Rattle.machine_play.specs.declared.hand.Hand.{Hand}
 use Rattle.machine_play.specs.declared.parts.Parts.{Parts}
 use Rattle.machine_play.specs.declared.machine.Machine.{Machine}
 use Rattle.machine_play.specs.Memory.{RunIs}
 use Rattle.machine_play.specs.Seen.{run_of, room_of}
-use Rattle.machine_play.specs.Core.{IsCore, Makes, Misses, NeedsAtomic, Halts}
-use Rattle.machine_play.specs.Service.{IsLineFill, is_atomic_try}
+use Rattle.machine_play.specs.Core.{IsCore, Makes, Misses, NeedsAtomic, Halts, Stops}
+use Rattle.machine_play.specs.Service.{Service, IsLineFill, is_atomic_try}
 use Rattle.machine_play.specs.Machine.{IsOrder, IsBusOf, in_hand, AreTurns, HasRoom, Going}
 use Rattle.machine_play.specs.Midstep.{HasRoomYet, Retiring, Reading, Exchanging}
 use Rattle.machine_play.specs.Ending.{Ended}
@@ -120,6 +121,47 @@ halted_from setup step tt_ m arch parts named g left core next h =
       within = omega (arith, left);
     }
 
+-- the fill of the line in the hand, if there is one
+no_atomic : (hand : Option Hand) (step : ℕ) → 0 ≡ 0 + count_by is_atomic_try (in_hand hand step)
+no_atomic None step = refl
+no_atomic (Some h) step = refl
+
+at_most_one : (hand : Option Hand) (step : ℕ) → length (in_hand hand step) ≤ 1
+at_most_one None step = omega arith
+at_most_one (Some h) step = omega arith
+
+is_fill : (hand : Option Hand) (step : ℕ) → Each IsLineFill (in_hand hand step)
+is_fill None step = tt
+is_fill (Some h) step = (record { kind = refl; len = refl }, tt)
+
+-- a bad register was read
+pub stopped_from : (setup : Setup) (step tt_ place syn : ℕ) (bad : List (Option ℕ)) (m : Machine) (arch : Arch) (parts : Parts) (named : Option Word2) → Going setup step m → step < setup.config.steps
+    → IsCore setup arch parts → arch.n ≡ m.arch.n → Stops setup bad m.hand (run_of m.arch m.parts) (run_of arch parts) arch.n tt_ place syn
+    → Ended setup (record { end = Stop tt_ place syn; steps = step + 1; named = named }) (with_core m arch parts)
+stopped_from setup step tt_ place syn bad m arch parts named g left core next h =
+    let same : parts.ops.items ≡ m.parts.ops.items = ap (λ (r : Run). r.ops) h.same in
+    let behind : List Service = in_hand m.hand step in
+    let idle : idle_steps (Stop tt_ place syn) ≡ 1 = ap (λ (n : ℕ). cond (n == 0x20) 1 0) h.trap_type in
+    record {
+      core = core;
+      run = (h.run, inl h.trap_type);
+      recorded = g.order.recorded ∙ sym same;
+      kept = m.order.items;
+      lost = [];
+      split = all_kept m.parts.ops.items m.order.items g.order;
+      told = m.bus.transfers;
+      bus = told_as_is setup m.parts.ops.items m.order.items m.bus g.order g.bus;
+      left = behind;
+      turns = record {
+        served = g.turns.served;
+        counted = omega (arith, next, g.turns.counted, idle, no_atomic m.hand step);
+        below = each_weaker (λ t. t.step < step) (λ t. t.step < step + 1) m.bus.transfers (λ t lt. omega arith) g.turns.below;
+        ascending = g.turns.ascending;
+      };
+      behind = inl (h.trap_type, (at_most_one m.hand step, (is_fill m.hand step, refl)));
+      within = omega (arith, left);
+    }
+
 -- after all its steps
 pub limited : (setup : Setup) (m : Machine) (steps : ℕ) (named : Option Word2) → Going setup steps m → steps ≡ setup.config.steps → Ended setup (record { end = Limit; steps = steps; named = named }) m
 limited setup m steps named g all = record {
@@ -132,19 +174,7 @@ limited setup m steps named g all = record {
   bus = told_as_is setup m.parts.ops.items m.order.items m.bus g.order g.bus;
   run = (g.core.run, all);
   left = in_hand m.hand steps;
-  turns = subst (λ (idle : ℕ). AreTurns steps m.arch.n idle (in_hand m.hand steps) m.order.items m.bus.transfers) (no_atomic m.hand) g.turns;
-  behind = (at_most_one m.hand, (is_fill m.hand, refl));
+  turns = subst (λ (idle : ℕ). AreTurns steps m.arch.n idle (in_hand m.hand steps) m.order.items m.bus.transfers) (no_atomic m.hand steps) g.turns;
+  behind = (at_most_one m.hand steps, (is_fill m.hand steps, refl));
   within = omega (arith, all);
 }
-  where
-    no_atomic : (hand : Option Hand) → 0 ≡ 0 + count_by is_atomic_try (in_hand hand steps)
-    no_atomic None = refl
-    no_atomic (Some h) = refl
-
-    at_most_one : (hand : Option Hand) → length (in_hand hand steps) ≤ 1
-    at_most_one None = omega arith
-    at_most_one (Some h) = omega arith
-
-    is_fill : (hand : Option Hand) → Each IsLineFill (in_hand hand steps)
-    is_fill None = tt
-    is_fill (Some h) = (record { kind = refl; len = refl }, tt)

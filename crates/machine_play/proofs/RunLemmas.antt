@@ -1,5 +1,6 @@
 -- The run of a core, one instruction further.
-use Rattle.std.proofs.Common.{◌≡◌, ℕ, zero, suc, ◌+◌, ◌≤◌, ◌++◌, Bool, true, false, List, [], ◌∷◌, map, filter, length, Option, Some, None, cond, refl, ap, sym, subst, ◌∙◌, arith, is_some, get_or, add-one}
+use Rattle.std.proofs.Common.{◌≡◌, ℕ, zero, suc, ◌+◌, ◌≤◌, ◌++◌, Bool, true, false, List, [], ◌∷◌, map, filter, length, Option, Some, None, cond, refl, ap, sym, subst, ◌∙◌, arith, is_some, get_or, add-one, inl, inr}
+use Rattle.std.proofs.lemmas.Bool.{cases_lt}
 use Rattle.std.proofs.Math.Seq.{get_or-append_seam}
 use Rattle.std.proofs.lemmas.List.{get_or_append_left, length-map, map-append}
 use Rattle.std.proofs.lemmas.List.Elements.{filter-append}
@@ -14,7 +15,7 @@ use Rattle.lf_model.specs.declared.setup.Setup.{Setup}
 use Rattle.machine_play.specs.Memory.{got_by, entry_answers}
 
 -- how many numbers the operations read is how many answers they give
-reads_are : (es : List Entry) → reads_of es ≡ length (entry_answers es)
+pub reads_are : (es : List Entry) → reads_of es ≡ length (entry_answers es)
 reads_are es = sym (length-map (filter entry_reads es) got_by ∙ length-filter entry_reads es)
 
 reads_push : (es : List Entry) (e : Entry) → reads_of (es ++ e ∷ []) ≡ reads_of es + cond (entry_reads e) 1 0
@@ -74,12 +75,29 @@ answers_more setup core (suc n) a b r is fits =
     ∙ ap (λ (got : ℕ). Some (performed core got o.e q)) (answer_kept core (answer_to a q.ops o.e.access) o.e.access q.ops a b enough) ∙ ap Some same in
     ap (option_and_then (onward setup core (a ++ b))) earlier ∙ onto)
 
+-- nor of an earlier run
+pub answers_enough : (setup : Setup) (core n k : ℕ) (a b : List ℕ) (r : Run) → run setup core a n ≡ Some r → reads_of r.ops ≤ length a → k ≤ n → run setup core (a ++ b) k ≡ run setup core a k
+unfolding run
+answers_enough setup core zero k a b r is fits le = let here : k ≡ 0 = omega arith in rw here refl
+answers_enough setup core (suc n) k a b r is fits le = elim (cases_lt k (suc n)) [
+  | inl early ↦
+      option_and_then_some (onward setup core a) (run setup core a n) r is (λ q before next.
+      let o = onward_parts setup core a q r next in
+      let same : answered core a q o.e ≡ r = o.next in
+      let enough : reads_of (with_access core (answer_to a q.ops o.e.access) o.e.access q.ops) ≤ length a =
+      subst (λ (x : Run). reads_of x.ops ≤ length a) (sym same) fits in
+      answers_enough setup core n k a b q before (omega (arith, enough, reads_less core (answer_to a q.ops o.e.access) o.e.access q.ops)) (omega arith))
+  | inr late ↦
+      let here : k ≡ suc n = omega arith in
+      subst (λ (m : ℕ). run setup core (a ++ b) m ≡ run setup core a m) (sym here) (answers_more setup core (suc n) a b r is fits ∙ sym is)
+]
+
 -- the answers of operations with one more
-more_of : Bool → ℕ → List ℕ
+pub more_of : Bool → ℕ → List ℕ
 more_of true got = got ∷ []
 more_of false got = []
 
-answers_push : (reading : Bool) (es : List Entry) (e : Entry) → entry_reads e ≡ reading → entry_answers (es ++ e ∷ []) ≡ entry_answers es ++ more_of reading e.got
+pub answers_push : (reading : Bool) (es : List Entry) (e : Entry) → entry_reads e ≡ reading → entry_answers (es ++ e ∷ []) ≡ entry_answers es ++ more_of reading e.got
 unfolding more_of
 answers_push true es e is = ap (map got_by) (filter-append entry_reads es (e ∷ [])) ∙ map-append got_by (filter entry_reads es) (filter entry_reads (e ∷ [])) ∙ rw is refl
 answers_push false es e is = ap (map got_by) (filter-append entry_reads es (e ∷ [])) ∙ map-append got_by (filter entry_reads es) (filter entry_reads (e ∷ [])) ∙ rw is refl

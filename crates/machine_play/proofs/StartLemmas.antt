@@ -1,14 +1,12 @@
 -- The bytes of RAM at the start, and where text lies.
-use Rattle.std.proofs.Common.{◌≡◌, ℕ, zero, suc, ◌+◌, ◌-◌, ◌*◌, ◌^◌, ◌<◌, ◌≤◌, Bool, true, nat_le, nat_lt, List, [], ◌∷◌, length, slice_index, refl, sym, ap, ap₂, ◌∙◌, arith, inl, inr, IsTrue, cond, Some, None}
-use Rattle.std.specs.Prelude.{find, All}
+use Rattle.std.proofs.Common.{◌≡◌, ℕ, ◌+◌, ◌-◌, ◌<◌, ◌≤◌, Bool, true, nat_le, nat_lt, List, [], ◌∷◌, slice_index, sym, ap, ◌∙◌, arith, inl, inr, IsTrue, cond, Some, None}
+use Rattle.std.specs.Prelude.{All}
 use Rattle.std.specs.List.{list_any}
-use Rattle.std.specs.Option.{option_map_or}
 use Rattle.std.proofs.lemmas.Bool.{cases_Bool, and_parts, leb-true, ltb-true}
 use Rattle.std.proofs.lemmas.List.Elements.{All-head, All-tail}
 use Rattle.ft_memory.proofs.LoadLemmas.{number_at-same}
-use Rattle.lf_model.specs.Start.{ram_first, covers, byte_in, initial_byte, number_at, word_at, in_range, is_text_byte, is_text_word, is_in_ram, IsLoadable}
+use Rattle.lf_model.specs.Start.{ram_first, initial_byte, number_at, word_at, in_range, is_text_byte, is_text_word, is_in_ram, IsLoadable}
 use Rattle.lf_model.specs.declared.image.Range.{Range}
-use Rattle.lf_model.specs.declared.image.Segment.{Segment}
 use Rattle.lf_model.specs.declared.image.Image.{Image}
 
 -- a word of the loaded bytes is the image's word

@@ -1,37 +1,38 @@
 -- The machine at reset.
-use Rattle.std.proofs.Common.{◌≡◌, ℕ, ◌+◌, ◌-◌, ◌*◌, ◌/◌, ◌%◌, ◌<◌, ◌≤◌, true, false, List, Option, [], map, length, vec_len, Vec, None, Some, refl, ap, sym, subst, ◌∙◌, arith, replicate, slice_set, slice_index, lit<}
+use Rattle.std.proofs.Common.{◌≡◌, ℕ, ◌+◌, ◌*◌, ◌<◌, ◌≤◌, true, false, List, Option, [], map, length, vec_len, None, Some, refl, ap, sym, subst, ◌∙◌, arith, replicate, slice_set, slice_index, lit<}
 use Rattle.std.specs.List.{AllByRecursion as Each}
 use Rattle.std.specs.Vec.{vec_capacity}
-use Rattle.std.specs.declared.alloc.Global.{Global}
 use Rattle.std.proofs.lemmas.Bool.Decides.{nat_tests}
 use Rattle.lf_model.specs.Start.{ram_first, is_in_ram, initial_byte, number_at}
 use Rattle.lf_model.specs.Operation.{made, is_lost}
-use Rattle.lf_model.specs.Effect.{Site}
 use Rattle.lf_model.specs.Run.{run, site_of}
 use Rattle.lf_model.specs.State.{cell, reset, reset_control}
 use Rattle.lf_model.specs.declared.bus.Entry.{Entry}
 use Rattle.lf_model.specs.declared.bus.Transfer.{Transfer}
-use Rattle.lf_model.specs.declared.control.Arch.{Arch}
 use Rattle.lf_model.specs.declared.control.Ctl.{Ctl}
 use Rattle.lf_model.specs.declared.setup.Setup.{Setup}
 use Rattle.lf_model.specs.declared.trace.Op.{Op}
-use Rattle.ahb_bus.specs.BusState.{BusState, most_transfers, StartsWith, word_of}
-use Rattle.machine_play.specs.declared.parts.Parts.{Parts}
+use Rattle.leon_core.specs.RegistersState.{values, StartsWith as StartsRegisters}
+use Rattle.ahb_bus.specs.BusState.{BusState, StartsWith}
 use Rattle.machine_play.specs.declared.machine.Machine.{Machine}
 use Rattle.ft_memory.specs.Memory.{place_of}
 use Rattle.machine_play.specs.declared.hand.Hand.{Hand}
 use Rattle.machine_play.specs.Playable.{IsPlayable}
-use Rattle.machine_play.specs.Memory.{NumberedFrom, ReadsEach, entry_answers, HoldsWords, byte_after}
-use Rattle.machine_play.specs.Seen.{seen_of, run_of, room_of}
-use Rattle.machine_play.specs.Core.{IsCore, HandFits}
-use Rattle.machine_play.specs.Service.{service_by, service_for}
-use Rattle.machine_play.specs.Machine.{AreTransfers, IsBusOf, in_hand, AreTurns, HasRoom, Going}
+use Rattle.machine_play.specs.Memory.{NumberedFrom, ReadsEach, entry_answers, byte_after}
+use Rattle.machine_play.specs.Seen.{run_of, room_of}
+use Rattle.machine_play.specs.Cells.{HasCells}
+use Rattle.machine_play.specs.Core.{HandFits}
+use Rattle.machine_play.specs.Machine.{AreTransfers, IsBusOf, in_hand, AreTurns, Going}
 
 start_run : (setup : Setup) (cells out : List ℕ) (ops : List Entry) (ctl : Ctl) (wim y : ℕ) → cells ≡ slice_set (replicate 136 0) (cell 0 8) 0 → out ≡ [] → ops ≡ []
     → ctl ≡ reset_control setup.image.entry → wim ≡ 2 → y ≡ 0
     → run setup 0 (entry_answers ops) 0 ≡ Some (record { state = record { cells = cells; ctl = ctl; wim = wim; y = y; out = out; halt = None }; ops = ops })
 unfolding run reset
 start_run setup cells out ops ctl wim y a b c d e f = rw (a, b, c, d, e, f) refl
+
+-- %o0 has the core's number, 0
+same_zeros : ◌≡◌ {A = List ℕ} (replicate 136 0) (slice_set (replicate 136 0) (cell 0 8) 0)
+same_zeros = refl
 
 word_in_ram : (ram count i : ℕ) → 4 * count ≡ ram → i < count → is_in_ram ram (ram_first + 4 * i) 4 ≡ true
 word_in_ram ram count i size within = grind (arith, nat_tests)
@@ -73,7 +74,7 @@ reads_none initial i a d within = absurd (omega arith)
 -- the machine at reset
 pub started : (setup : Setup) (m : Machine) → IsPlayable setup → m.hand ≡ None → m.arch.ctl ≡ reset_control setup.image.entry
     → (m.arch.wim ≡ 2) × (m.arch.y ≡ 0) × (m.arch.core ≡ 0) × (m.arch.n ≡ 0) × (m.arch.k ≡ 0) → m.parts.program.now.setup.now ≡ setup
-    → m.parts.cells.items ≡ slice_set (replicate 136 0) (cell 0 8) 0 → (m.parts.out.items ≡ []) × (m.parts.ops.items ≡ []) × (vec_len m.parts.ops ≡ 0)
+    → StartsRegisters 0 setup.flips m.parts.registers → (m.parts.out.items ≡ []) × (m.parts.ops.items ≡ []) × (vec_len m.parts.ops ≡ 0)
     → 2 * setup.config.steps ≤ room_of m.parts → StartsWith setup m.bus → m.order.items ≡ [] → vec_len m.order ≡ 0 → setup.config.steps ≤ vec_capacity m.order → Going setup 0 m
 started setup m playable hand control rest same cells empty room bus none zero_is spare = record {
   core = record {
@@ -93,7 +94,7 @@ started setup m playable hand control rest same cells empty room bus none zero_i
       reads = subst (λ (es : List Entry). ReadsEach (initial_byte setup.image) es) (sym empty.1) (reads_none (initial_byte setup.image));
     };
     run = subst (λ (n : ℕ). run setup 0 (entry_answers m.parts.ops.items) n ≡ Some (run_of m.arch m.parts)) (sym rest.3)
-        (start_run setup m.parts.cells.items m.parts.out.items m.parts.ops.items m.arch.ctl m.arch.wim m.arch.y cells empty.0 empty.1 control rest.0 rest.1);
+        (start_run setup (values m.parts.registers) m.parts.out.items m.parts.ops.items m.arch.ctl m.arch.wim m.arch.y (cells.zeros ∙ same_zeros) empty.0 empty.1 control rest.0 rest.1);
   };
   hand = subst (λ (held : Option Hand). HandFits setup (run_of m.arch m.parts) held) (sym hand) tt;
   order = record {
@@ -103,4 +104,13 @@ started setup m playable hand control rest same cells empty room bus none zero_i
   bus = subst (λ (es : List Entry). IsBusOf setup es m.bus) (sym empty.1) (start_bus setup m.bus bus);
   turns = start_turns m.arch.n m.hand m.order.items m.bus.transfers rest.3 hand none bus.transfers;
   room = record { parts = omega (arith, room); order = omega (arith, zero_is, spare); bus = start_room setup m.bus playable bus };
+}
+
+-- its register cells
+pub started_cells : (setup : Setup) (m : Machine) → m.arch.n ≡ 0 → StartsRegisters 0 setup.flips m.parts.registers → HasCells setup 0 m
+started_cells setup m none h = record {
+  counted = sym none;
+  struck = record { script = h.script; core = h.core; steps_are = h.steps };
+  follows = h.histories;
+  well = tt;
 }

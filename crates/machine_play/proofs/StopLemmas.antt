@@ -1,7 +1,7 @@
 -- What is known of a machine that an error trap stopped.
-use Rattle.std.proofs.Common.{◌≡◌, ℕ, ◌+◌, ◌-◌, ◌*◌, ◌/◌, ◌%◌, ◌<◌, ◌≤◌, ◌==◌, ◌&&◌, refl, ap, sym, subst, ◌∙◌, arith, inl, inr, ◌⊎◌, get_or, cond, Bool, true, false, List, [], ◌∷◌, ◌++◌, length, take, map, Option, Some, None, Vec, IsTrue}
+use Rattle.std.proofs.Common.{◌≡◌, ℕ, ◌+◌, ◌-◌, ◌*◌, ◌/◌, ◌%◌, ◌<◌, ◌≤◌, refl, ap, sym, subst, ◌∙◌, arith, inl, inr, get_or, cond, Bool, true, false, List, [], ◌∷◌, ◌++◌, length, take, map, Option, Some, Vec, IsTrue}
 use Rattle.std.specs.Prelude.{find}
-use Rattle.std.specs.List.{AllByRecursion as Each, count_by}
+use Rattle.std.specs.List.{count_by}
 use Rattle.std.specs.declared.alloc.Global.{Global}
 use Rattle.std.proofs.Math.Seq.{take-append_seam}
 use Rattle.std.proofs.lemmas.List.{append-nil, map-append, take_all}
@@ -10,14 +10,13 @@ use Rattle.std.proofs.lemmas.Bool.{and_parts}
 use Rattle.lf_model.specs.Effect.{Access}
 use Rattle.lf_model.specs.Flips.{is_bad_word, syndrome}
 use Rattle.lf_model.specs.WordHistory.{begun, history}
-use Rattle.lf_model.specs.Operation.{kind_made, made, is_lost}
+use Rattle.lf_model.specs.Operation.{made}
 use Rattle.lf_model.specs.Results.{idle_steps}
-use Rattle.lf_model.specs.StopCause.{wanted_words, word_of, serves}
+use Rattle.lf_model.specs.StopCause.{wanted_words, serves}
 use Rattle.lf_model.specs.declared.bus.Entry.{Entry}
 use Rattle.lf_model.specs.declared.bus.Line.{Line}
 use Rattle.lf_model.specs.declared.bus.OpKind.{OpKind}
 use Rattle.lf_model.specs.declared.bus.Pending.{Pending}
-use Rattle.lf_model.specs.declared.bus.OpKind.TheVariants as ops
 use Rattle.lf_model.specs.declared.bus.Transfer.{Transfer}
 use Rattle.lf_model.specs.declared.bus.TurnKind.{TurnKind}
 use Rattle.lf_model.specs.declared.bus.TurnKind.TheVariants.{Load, Store, Atomic}
@@ -35,11 +34,11 @@ use Rattle.ahb_bus.specs.Storing.{rewrite_made, write_made, store_made, atomic_m
 use Rattle.machine_play.specs.declared.machine.Machine.{Machine}
 use Rattle.machine_play.specs.Memory.{HoldsWords}
 use Rattle.machine_play.specs.Core.{FitsRam}
-use Rattle.machine_play.specs.Service.{Service, service_by, service_for, service_of, line_of, is_atomic_try, IsSplit}
+use Rattle.machine_play.specs.Service.{Service, service_by, line_of, is_atomic_try, IsSplit}
 use Rattle.machine_play.specs.Transfers.{IsTransfer}
-use Rattle.machine_play.specs.Machine.{op_in, lost_in, in_turn, IsOrder, met_in, AreTransfers, IsBusOf, AreTurns}
-use Rattle.machine_play.specs.Midstep.{Reading, Storing, Exchanging}
-use Rattle.machine_play.specs.Ending.{IsLastMade, IsStopped, IsLosing, IsBusTold, Ended}
+use Rattle.machine_play.specs.Machine.{lost_in, in_turn, IsOrder, met_in, IsBusOf, AreTurns}
+use Rattle.machine_play.specs.Midstep.{Storing, Exchanging}
+use Rattle.machine_play.specs.Ending.{IsLastMade, IsBusTold, Ended}
 use Rattle.machine_play.proofs.StoringLemmas.{by_length}
 use Rattle.machine_play.proofs.TurnLemmas.{core_in, met_now, transfers_push, in_word, store_told, atomic_told, served_more, turns_made}
 use Rattle.machine_play.proofs.StepLemmas.{IsPushed, no_line}
@@ -157,7 +156,7 @@ ended_load setup step addr len place turn syn m bus' line named t bad turn_is sy
       bus = told_as_is setup m.parts.ops.items m.order.items bus' r.order (line_bus setup step addr len m bus' line t);
       run = (
         r.core.run,
-        inl (
+        inr (inl (
           refl,
           record {
             e = asked.e;
@@ -171,11 +170,11 @@ ended_load setup step addr len place turn syn m bus' line named t bad turn_is sy
             lowest = lowest;
             syn_is = syn_is ∙ get_or_from_slice_get line.syn place _ 0 (t.shows place within).syn ∙ ap syndrome (met_word place);
           },
-        ),
+        )),
       );
       left = fill_of addr (step + 1) ∷ [];
       turns = line_turns setup step addr len (idle_steps (Stop 0x09 turn syn) + count_by is_atomic_try (fill_of addr (step + 1) ∷ [])) m bus' line t refl;
-      behind = inl (refl, (record { one = fill_of addr (step + 1); is = refl; made = inl (record { kind = refl; len = refl }) }, refl));
+      behind = inr (inl (refl, (record { one = fill_of addr (step + 1); is = refl; made = inl (record { kind = refl; len = refl }) }, refl)));
       within = omega (arith, r.room.left);
     }
 
@@ -253,7 +252,7 @@ ended_lost setup step turn syn m order' bus' e named h p =
       bus = told_refused setup r.earlier m.order.items m.bus bus' t r.order r.bus its_bus refused told;
       run = (
         r.core.run,
-        inr (
+        inr (inr (
           refl,
           record {
             last = without_length t;
@@ -263,15 +262,15 @@ ended_lost setup step turn syn m order' bus' e named h p =
             bad = ap is_bad_word (sym met_word) ∙ tests.1;
             syn_is = h.syn_is ∙ ap syndrome met_word;
           },
-        ),
+        )),
       );
       left = left;
       turns = turns_made step r.n m.arch.n (idle_steps (Stop 0x2B turn syn) + count_by is_atomic_try left) left m.order.items m.order.items m.bus.transfers (without_length t) turns refl
           (omega (arith, r.next)) (served_more m.bus.transfers m.order.items (without_length t) left turns.served refl);
-      behind = inr (
+      behind = inr (inr (
         refl,
         record { store = lost_in e step; lost_is = refl; is = ap (λ (b : Bool). lost_service e.addr step b ∷ []) (sym tests.0); part = tests.0 },
-      );
+      ));
       within = omega (arith, r.room.left);
     }
 
@@ -314,7 +313,7 @@ ended_atomic setup asked rd turn syn m bus' named h =
       bus = told_refused setup m.parts.ops.items m.order.items m.bus bus' t x.order x.bus h.made refused (atomic_told setup m.bus addr len step x.bus.flips inside.in_ram);
       run = (
         x.core.run,
-        inl (
+        inr (inl (
           refl,
           record {
             e = x.atomic.e;
@@ -328,11 +327,11 @@ ended_atomic setup asked rd turn syn m bus' named h =
             lowest = ap (find (λ w. is_bad_word (met_in setup.flips told turn w))) wants.is ∙ found_first (λ w. is_bad_word (met_in setup.flips told turn w)) (word_address addr) wants.rest is_bad;
             syn_is = h.syn_is ∙ ap syndrome met_word;
           },
-        ),
+        )),
       );
       left = left;
       turns = turns_made step m.arch.n m.arch.n (idle_steps (Stop 0x09 turn syn) + count_by is_atomic_try left) left m.order.items m.order.items m.bus.transfers (without_length t) x.turns refl
           (omega arith) (served_more m.bus.transfers m.order.items (without_length t) left x.turns.served refl);
-      behind = inl (refl, (record { one = service_by (without_length t); is = refl; made = inr (record { kind = refl; len = refl }) }, refl));
+      behind = inr (inl (refl, (record { one = service_by (without_length t); is = refl; made = inr (record { kind = refl; len = refl }) }, refl)));
       within = omega (arith, x.room.left);
     }

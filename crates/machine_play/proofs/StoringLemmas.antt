@@ -1,9 +1,9 @@
 -- The words of memory after a store or an atomic of 1, 2, 4 or 8 bytes.
-use Rattle.std.proofs.Common.{◌≡◌, ℕ, ◌+◌, ◌-◌, ◌*◌, ◌/◌, ◌%◌, ◌^◌, ◌<◌, ◌≤◌, ◌==◌, ◌&&◌, ◌||◌, refl, ap, sym, subst, ◌∙◌, arith, inl, inr, ◌⊎◌, get_or, cond, Bool, true, false, List, [], ◌∷◌, ◌++◌, nat_le, nat_lt, length, length-set, set, IsTrue}
+use Rattle.std.proofs.Common.{◌≡◌, ℕ, ◌+◌, ◌-◌, ◌*◌, ◌/◌, ◌%◌, ◌^◌, ◌<◌, ◌≤◌, ◌&&◌, refl, ap, sym, subst, ◌∙◌, arith, inl, inr, ◌⊎◌, get_or, cond, Bool, true, false, List, [], ◌∷◌, ◌++◌, nat_le, nat_lt, length, length-set, set, IsTrue}
 use Rattle.std.proofs.lemmas.Bool.{cases_eq, cases_lt, and_parts, leb-true, ltb-true}
 use Rattle.std.proofs.lemmas.List.{get_or-set_same, get_or-set_other}
 use Rattle.std.proofs.lemmas.Bool.Decides.{nat_tests}
-use Rattle.lf_model.specs.Start.{ram_first, is_in_ram}
+use Rattle.lf_model.specs.Start.{ram_first}
 use Rattle.lf_model.specs.Operation.{byte_of, byte_got, byte_put, touches}
 use Rattle.lf_model.specs.declared.bus.Entry.{Entry}
 use Rattle.lf_model.specs.declared.setup.Setup.{Setup}
@@ -11,7 +11,7 @@ use Rattle.ft_memory.specs.Memory.{place_of}
 use Rattle.ft_memory.specs.Parts.{is_part, merged}
 use Rattle.ft_memory.proofs.PartLemmas.{merged-bytes, first_byte, second_byte, third_byte, fourth_byte, first_half, second_half}
 use Rattle.ahb_bus.specs.BusState.{BusState, word_of, with_word}
-use Rattle.ahb_bus.specs.Storing.{is_store_length, word_stored, with_stored}
+use Rattle.ahb_bus.specs.Storing.{is_store_length, with_stored}
 use Rattle.machine_play.specs.Memory.{entry_enters, HoldsWords, HasBytes, byte_after}
 use Rattle.machine_play.specs.Core.{FitsRam}
 use Rattle.machine_play.specs.Midstep.{number_read}

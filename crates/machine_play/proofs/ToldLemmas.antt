@@ -1,14 +1,14 @@
 -- The transfers as the trace tells them: one that met a bad word has no length, and wrote nothing.
-use Rattle.std.proofs.Common.{◌≡◌, ℕ, ◌+◌, ◌-◌, ◌%◌, ◌<◌, ◌≤◌, refl, ap, sym, subst, ◌∙◌, arith, inl, inr, ◌⊎◌, cond, not, ◌&&◌, Bool, true, false, List, [], ◌∷◌, ◌++◌, nat_lt, length, length-append, map, Option, Some, None}
+use Rattle.std.proofs.Common.{◌≡◌, ℕ, ◌+◌, ◌%◌, ◌<◌, ◌≤◌, refl, ap, sym, subst, ◌∙◌, arith, inl, inr, ◌⊎◌, cond, not, ◌&&◌, Bool, true, false, List, [], ◌∷◌, ◌++◌, nat_lt, length, map, Option, Some, None}
 use Rattle.std.specs.Prelude.{IfSome, All}
 use Rattle.std.specs.List.{slice_get}
 use Rattle.std.proofs.lemmas.Bool.{and_parts, cases_lt, ltb-true, lt-ltb}
-use Rattle.std.proofs.lemmas.List.{map-append, length-map}
+use Rattle.std.proofs.lemmas.List.{length-map}
 use Rattle.std.proofs.lemmas.Option.{slice_get_past, get_or_from_slice_get}
 use Rattle.lf_model.specs.Flips.{Moment, is_bad_word, word_budget}
 use Rattle.lf_model.specs.Flips.How.{Whole, ByPartStore, ByAtomic}
 use Rattle.lf_model.specs.Fates.{happened, is_applied}
-use Rattle.lf_model.specs.FlipFates.{is_late, is_declined, TellsFlip, TellsFates}
+use Rattle.lf_model.specs.FlipFates.{TellsFlip, TellsFates}
 use Rattle.lf_model.specs.WordHistory.{history, touches_word, write_by, with_write}
 use Rattle.lf_model.specs.declared.bus.Transfer.{Transfer}
 use Rattle.lf_model.specs.declared.bus.TurnKind.{TurnKind}
@@ -76,11 +76,11 @@ forgotten bus t word r aligned =
 
 told_flip : (script : List Flip) (ts told : List Transfer) (ram i : ℕ) (flip : Flip) (fate : Fate) → AimsInRam ram flip → length told ≡ length ts
     → ((word : ℕ) → word % 4 ≡ 0 → history script [] word told ≡ history script [] word ts) → TellsFlip script ts i flip fate → TellsFlip script told i flip fate
-told_flip script ts told ram i (Mem turn addr bit) fate aims long same h = (
-  h.0 ∙ ap (λ (n : ℕ). not (nat_lt turn n)) (sym long),
-  h.1 ∙ ap (λ (n : ℕ). nat_lt turn n && not (happened (is_applied word_budget i) (history script [] addr ts))) (sym long)
-      ∙ ap (λ (x : List Moment). nat_lt turn (length told) && not (happened (is_applied word_budget i) x)) (sym (same addr aims.1)),
-)
+told_flip script ts told ram i (Mem turn addr bit) fate aims long same h = record {
+  late = h.late ∙ ap (λ (n : ℕ). not (nat_lt turn n)) (sym long);
+  declined = h.declined ∙ ap (λ (n : ℕ). nat_lt turn n && not (happened (is_applied word_budget i) (history script [] addr ts))) (sym long)
+      ∙ ap (λ (x : List Moment). nat_lt turn (length told) && not (happened (is_applied word_budget i) x)) (sym (same addr aims.1));
+}
 told_flip script ts told ram i (Reg core step cell bit) fate aims long same h = h
 told_flip script ts told ram i (Tag core step fetch way set byte bit) fate aims long same h = h
 told_flip script ts told ram i (Line core step fetch way set byte bit) fate aims long same h = h

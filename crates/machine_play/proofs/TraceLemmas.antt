@@ -141,12 +141,13 @@ short_rest (t ∷ ts) (s ∷ left) h short =
 pub left_short : (end : CoreEnd) (left : List Service) (lost : List Op) → Each (λ o. is_lost o ≡ true) lost → IsLeft end left lost → Each (λ s. s.len ≡ 0) left
 left_short (Halt tt_) left lost all h = subst (λ (xs : List Service). Each (λ s. s.len ≡ 0) xs) (sym h.0) tt
 left_short Limit left lost all h = each_weaker IsLineFill (λ s. s.len ≡ 0) left (λ s fill. fill.len) h.1.0
-left_short (Stop tt_ place syn) left lost all (inl h) = subst (λ (xs : List Service). Each (λ s. s.len ≡ 0) xs) (sym h.1.0.is) (by_kind h.1.0.one h.1.0.made, tt)
+left_short (Stop tt_ place syn) left lost all (inl h) = each_weaker IsLineFill (λ s. s.len ≡ 0) left (λ s fill. fill.len) h.1.1.0
+left_short (Stop tt_ place syn) left lost all (inr (inl h)) = subst (λ (xs : List Service). Each (λ s. s.len ≡ 0) xs) (sym h.1.0.is) (by_kind h.1.0.one h.1.0.made, tt)
   where
     by_kind : (s : Service) → IsLineFill s ⊎ IsAtomicTry s → s.len ≡ 0
     by_kind s (inl fill) = fill.len
     by_kind s (inr atomic) = atomic.len
-left_short (Stop tt_ place syn) left lost all (inr h) =
+left_short (Stop tt_ place syn) left lost all (inr (inr h)) =
     let its : is_lost h.1.store ≡ true = (subst (λ (os : List Op). Each (λ o. is_lost o ≡ true) os) h.1.lost_is all).0 in
     subst (λ (xs : List Service). Each (λ s. s.len ≡ 0) xs) (sym h.1.is) (no_length h.1.store h.1.store.kind its, tt)
   where

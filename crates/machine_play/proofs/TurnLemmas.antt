@@ -1,5 +1,5 @@
 -- The bus and its transfers after one more turn.
-use Rattle.std.proofs.Common.{◌≡◌, ℕ, zero, suc, ◌+◌, ◌-◌, ◌*◌, ◌/◌, ◌%◌, ◌^◌, ◌<◌, ◌≤◌, ◌==◌, refl, ap, ap₂, sym, subst, ◌∙◌, arith, inl, inr, cond, Bool, true, false, List, [], ◌∷◌, ◌++◌, nat_le, length, take, map, Option, Some, None, length-append, IsTrue}
+use Rattle.std.proofs.Common.{◌≡◌, ℕ, zero, suc, ◌+◌, ◌*◌, ◌/◌, ◌%◌, ◌^◌, ◌<◌, ◌≤◌, ◌==◌, refl, ap, ap₂, sym, subst, ◌∙◌, arith, inl, inr, cond, Bool, true, false, List, [], ◌∷◌, ◌++◌, nat_le, length, take, map, Option, Some, None, length-append, IsTrue}
 use Rattle.std.specs.Prelude.{IfSome}
 use Rattle.std.specs.List.{slice_get, AllByRecursion as Each, range_with_len, count_by}
 use Rattle.std.proofs.lemmas.Bool.{cases_eq, cases_lt, and_parts, leb-true}

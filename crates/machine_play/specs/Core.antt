@@ -1,15 +1,15 @@
 -- What one instruction makes of a core without caches, by the line in its hand.
-use Rattle.std.specs.Prelude.{ℕ, ◌≡◌, ◌<◌, ◌+◌, ◌*◌, ◌%◌, ◌^◌, ◌++◌, ◌∷◌, [], true, List, Option, Some, None, vec_len, IsTrue}
+use Rattle.std.specs.Prelude.{ℕ, ◌≡◌, ◌%◌, ◌++◌, ◌∷◌, [], true, List, Option, Some, None, vec_len, IsTrue}
 use Rattle.lf_model.specs.Start.{initial_byte, is_in_ram}
 use Rattle.lf_model.specs.Effect.{Access, Effect}
 use Rattle.lf_model.specs.Run.{Run, site_of, effect_at_pc}
-use Rattle.lf_model.specs.Step.{IsSound, came_to}
+use Rattle.lf_model.specs.Step.{IsSound, first_bad, came_to}
 use Rattle.lf_model.specs.declared.bus.Entry.{Entry}
 use Rattle.lf_model.specs.declared.bus.OpKind.TheVariants as ops
 use Rattle.lf_model.specs.declared.control.Arch.{Arch}
 use Rattle.lf_model.specs.declared.setup.Setup.{Setup}
 use Rattle.lf_model.specs.declared.step.Did.{Did}
-use Rattle.lf_model.specs.declared.step.Did.TheVariants.{Retired, Need, Halt}
+use Rattle.lf_model.specs.declared.step.Did.TheVariants.{Retired, Need, Halt, Stop}
 use Rattle.lf_model.specs.declared.step.Turn.TheVariants.{Load, Atomic}
 use Rattle.v8_exec.specs.Accesses.{atomic_access}
 use Rattle.ahb_bus.specs.Storing.{is_store_length, is_atomic_length}
@@ -94,7 +94,7 @@ pub record IsAtomicAt (setup : Setup) (r : Run) (addr len put rd : ℕ) : Type 0
   pub e : Effect
   pub its : effect_at_pc setup 0 r.state ≡ e
   pub access : e.access ≡ Some (atomic_access addr len put rd)
-  pub answer : came_to (parts_with None) r.state e ≡ Need (Atomic addr len put rd)
+  pub answer : came_to (parts_with [] None) r.state e ≡ Need (Atomic addr len put rd)
   pub size : IsTrue (is_atomic_length len)
   pub fits : FitsRam setup.config.ram addr len
 
@@ -108,12 +108,21 @@ pub record NeedsAtomic (setup : Setup) (hand : Option Hand) (old new : Run) (add
 pub record Halts (setup : Setup) (hand : Option Hand) (old new : Run) (n tt_ : ℕ) : Type 0 where
   pub empty : hand ≡ None
   pub same : new ≡ old
+  pub writes : (effect_at_pc setup 0 old.state).writes ≡ []
   pub run : RunIs setup n (halted tt_ new)
 
+-- a register that the instruction at PC reads is bad, and the state is as it was
+pub record Stops (setup : Setup) (bad : List (Option ℕ)) (hand : Option Hand) (old new : Run) (n tt_ place syn : ℕ) : Type 0 where
+  pub trap_type : tt_ ≡ 0x20
+  pub same : new ≡ old
+  pub run : RunIs setup n new
+  pub first : first_bad (parts_with bad hand) old.state.ctl.cwp (effect_at_pc setup 0 old.state).reads ≡ Some (record { cell = place; syn = syn })
+
 -- what one instruction comes to, of a core whose run was old and is now new, after n instructions; no other answers come
-abbrev pub Comes : Setup → Option Hand → Run → Did → ℕ → Run → Type 0
-Comes setup hand old Retired n new = RunIs setup n new × Makes setup hand old.ops new.ops
-Comes setup hand old (Halt tt_) n new = Halts setup hand old new n tt_
-Comes setup hand old (Need (Load addr len why)) n new = Misses setup hand old new addr len
-Comes setup hand old (Need (Atomic addr len put rd)) n new = NeedsAtomic setup hand old new addr len put rd
-Comes setup hand old _ n new = ⊥
+abbrev pub Comes : Setup → List (Option ℕ) → Option Hand → Run → Did → ℕ → Run → Type 0
+Comes setup bad hand old Retired n new = RunIs setup n new × Makes setup hand old.ops new.ops
+Comes setup bad hand old (Halt tt_) n new = Halts setup hand old new n tt_
+Comes setup bad hand old (Need (Load addr len why)) n new = Misses setup hand old new addr len
+Comes setup bad hand old (Need (Atomic addr len put rd)) n new = NeedsAtomic setup hand old new addr len put rd
+Comes setup bad hand old (Stop tt_ place syn) n new = Stops setup bad hand old new n tt_ place syn
+Comes setup bad hand old _ n new = ⊥

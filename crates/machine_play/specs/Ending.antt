@@ -54,10 +54,14 @@ pub record IsLosing (setup : Setup) (transfers : List Transfer) (step place syn 
   pub bad : is_bad_word (met_in setup.flips transfers place (word_of last)) ≡ true
   pub syn_is : syn ≡ syndrome (met_in setup.flips transfers place (word_of last))
 
--- why an error trap of this type stopped the core
-abbrev pub IsErrorEnd : Setup → Run → List Transfer → ℕ → ℕ → ℕ → ℕ → Type 0
-IsErrorEnd setup r transfers step tt_ place syn =
+-- why an error trap of a word of memory, of this type, stopped the core
+abbrev pub IsWordEnd : Setup → Run → List Transfer → ℕ → ℕ → ℕ → ℕ → Type 0
+IsWordEnd setup r transfers step tt_ place syn =
     ((tt_ ≡ 0x09) × IsStopped setup r transfers step place syn) ⊎ ((tt_ ≡ 0x2B) × IsLosing setup transfers step place syn)
+
+-- why an error trap stopped it: one of a word, or that of a register, `r_register_access_error`
+abbrev pub IsErrorEnd : Setup → Run → List Transfer → ℕ → ℕ → ℕ → ℕ → Type 0
+IsErrorEnd setup r transfers step tt_ place syn = (tt_ ≡ 0x20) ⊎ IsWordEnd setup r transfers step tt_ place syn
 
 -- the core's run as its end shows it
 abbrev pub RunEnds : Setup → ℕ → Run → List Transfer → ℕ → CoreEnd → Type 0

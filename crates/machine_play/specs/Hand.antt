@@ -1,5 +1,5 @@
 -- The line that a core holds after a load turn, until the load takes its word from it.
-use Rattle.std.specs.Prelude.{ℕ, ◌≡◌, ◌<◌, ◌+◌, ◌-◌, ◌/◌, ◌%◌, Bool, true, false, ◌&&◌, nat_le, slice_index, Option, Some, None, if◌then◌else◌}
+use Rattle.std.specs.Prelude.{ℕ, ◌≡◌, ◌<◌, ◌+◌, ◌-◌, ◌/◌, ◌%◌, Bool, true, false, ◌&&◌, nat_le, slice_index, List, Option, Some, None, if◌then◌else◌}
 use Rattle.lf_model.specs.Start.{number_at}
 use Rattle.lf_model.specs.Operation.{byte_of}
 use Rattle.lf_model.specs.Effect.{Access, Effect}
@@ -27,9 +27,9 @@ abbrev pub look_in : Option Hand → ℕ → ℕ → Look
 look_in None addr len = Miss Absent
 look_in (Some h) addr len = if has_bytes h addr len then Hit (number_at (byte_in h) addr len) 0 else Miss Absent
 
--- the parts of a core without caches: registers read well, a look-up goes to the hand, and no store waits
-abbrev pub parts_with : Option Hand → Parts
-parts_with hand = record { bad = λ c. None; look = look_in hand; full = false; waiting = false }
+-- the parts of a core without caches: some of its register cells are bad, a look-up goes to the hand, and no store waits
+abbrev pub parts_with : List (Option ℕ) → Option Hand → Parts
+parts_with bad hand = record { bad = bad; look = look_in hand; full = false; waiting = false }
 
 -- the hand has the line of the load at PC, and of its bytes what memory has
 pub record IsHandOf (setup : Setup) (r : Run) (h : Hand) : Type 0 where

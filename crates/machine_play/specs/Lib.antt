@@ -8,5 +8,6 @@ pub mod Seen
 pub mod Core
 pub mod Machine
 pub mod Midstep
+pub mod Cells
 pub mod Ending
 pub mod Result

@@ -1,5 +1,5 @@
 -- The machine while it goes on: its core, memory order, bus and hand, and how they belong together.
-use Rattle.std.specs.Prelude.{ℕ, ◌≡◌, ◌≤◌, ◌<◌, ◌+◌, ◌-◌, ◌*◌, ◌^◌, ◌++◌, ◌∷◌, [], true, false, List, Option, Some, None, length, map, take, slice_get, IfSome, vec_len}
+use Rattle.std.specs.Prelude.{ℕ, ◌≡◌, ◌≤◌, ◌<◌, ◌+◌, ◌-◌, ◌*◌, ◌++◌, ◌∷◌, [], true, false, List, Option, Some, None, map, take, slice_get, IfSome, vec_len}
 use Rattle.std.specs.Vec.{vec_capacity}
 use Rattle.std.specs.List.{AllByRecursion, count_by}
 use Rattle.lf_model.specs.Flips.{Moment}
@@ -17,7 +17,7 @@ use Rattle.machine_play.specs.declared.hand.Hand.{Hand}
 use Rattle.machine_play.specs.declared.machine.Machine.{Machine}
 use Rattle.machine_play.specs.Memory.{HoldsWords}
 use Rattle.machine_play.specs.Seen.{run_of, room_of}
-use Rattle.machine_play.specs.Core.{Runs, HandFits, IsLoadAt, IsAtomicAt, Makes}
+use Rattle.machine_play.specs.Core.{Runs, HandFits}
 use Rattle.machine_play.specs.Service.{Service, service_by, service_for, is_load_turn}
 use Rattle.machine_play.specs.Transfers.{IsTransfer, HasAscendingSteps}
 

@@ -1,8 +1,7 @@
 -- The operations of one core in program order, and memory as they leave it.
-use Rattle.std.specs.Prelude.{ℕ, ◌≡◌, ◌<◌, ◌+◌, ◌*◌, ◌^◌, length, take, slice_index, slice_index_or, ◌∷◌, [], Bool, List, filter, map, true, false, Some, All}
-use Rattle.std.specs.List.{AllByRecursion}
+use Rattle.std.specs.Prelude.{ℕ, ◌≡◌, ◌<◌, ◌+◌, ◌*◌, ◌^◌, length, take, slice_index, slice_index_or, ◌∷◌, [], Bool, List, filter, map, true, Some, All}
 use Rattle.lf_model.specs.Start.{ram_first, initial_byte, number_at}
-use Rattle.lf_model.specs.Operation.{kind_enters, is_lost, entry_reads, made, touches, byte_got}
+use Rattle.lf_model.specs.Operation.{kind_enters, entry_reads, made, touches, byte_got}
 use Rattle.lf_model.specs.Value.{stored}
 use Rattle.lf_model.specs.Run.{Run, run}
 use Rattle.lf_model.specs.declared.setup.Setup.{Setup}

@@ -3,8 +3,10 @@ use Rattle.std.specs.Prelude.{◌≡◌, ◌≤◌, ◌%◌, All, length, []}
 use Rattle.lf_model.specs.Start.{IsLoadable}
 use Rattle.lf_model.specs.declared.setup.Setup.{Setup}
 use Rattle.ahb_bus.specs.BusState.{AimsInRam}
+use Rattle.leon_core.specs.RegistersState.{AimsAtCell}
 
--- one core, no scrubber and no watched words; an image that can be loaded; flips of memory that aim at words in RAM
+-- one core, no scrubber and no watched words; an image that can be loaded; flips that aim at words in RAM and at register cells
+-- of the core
 pub record IsPlayable (setup : Setup) : Type 0 where
   pub one_core : setup.config.cores ≡ 1
   pub ram_whole : setup.config.ram % 65536 ≡ 0
@@ -15,5 +17,6 @@ pub record IsPlayable (setup : Setup) : Type 0 where
   pub image : IsLoadable setup.config.ram setup.image
   pub few_flips : length setup.flips ≤ 65536
   pub aims : All (AimsInRam setup.config.ram) setup.flips
+  pub cells : All (AimsAtCell 0) setup.flips
   pub no_words : setup.config.watch ≡ []
   pub no_scrubber : setup.config.scrub_turns ≡ 0

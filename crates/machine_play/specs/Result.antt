@@ -1,7 +1,7 @@
 -- The result and the trace of a core that has ended.
-use Rattle.std.specs.Prelude.{ℕ, ◌∷◌, [], List, Option, Some, map}
+use Rattle.std.specs.Prelude.{ℕ, ◌==◌, ◌∷◌, [], List, Option, Some, None, is_some, map, slice_index_or, if◌then◌else◌}
 use Rattle.std.specs.List.{range_with_len}
-use Rattle.lf_model.specs.State.{State, register, psr_of}
+use Rattle.lf_model.specs.State.{State, cell, register, psr_of}
 use Rattle.lf_model.specs.Step.{Seen, state_of}
 use Rattle.lf_model.specs.declared.control.Arch.{Arch}
 use Rattle.lf_model.specs.declared.bus.Transfer.{Transfer}
@@ -12,20 +12,20 @@ use Rattle.lf_model.specs.declared.trace.Op.{Op}
 use Rattle.lf_model.specs.declared.trace.Trace.{Trace}
 use Rattle.machine_play.specs.Played.{no_errors}
 
--- all registers of the current window are told
-abbrev pub told_register : State → ℕ → Option ℕ
-told_register s n = Some (register s n)
+-- a register of the current window, of which no value is told where its cell is bad; register 0 has no cell
+abbrev pub told_register : List (Option ℕ) → State → ℕ → Option ℕ
+told_register bad s n = if n == 0 then Some 0 else if is_some (slice_index_or bad (cell s.ctl.cwp n) None) then None else Some (register s n)
 
-abbrev pub told_registers : State → List (Option ℕ)
-told_registers s = map (told_register s) (range_with_len 0 32)
+abbrev pub told_registers : List (Option ℕ) → State → List (Option ℕ)
+told_registers bad s = map (told_register bad s) (range_with_len 0 32)
 
-abbrev pub result_of : Arch → Seen → ℕ → CoreEnd → CoreResult
-result_of arch seen steps end = record {
+abbrev pub result_of : Arch → Seen → List (Option ℕ) → ℕ → CoreEnd → CoreResult
+result_of arch seen bad steps end = record {
   end = end;
   n = arch.n;
   steps = steps;
   out = seen.out;
-  regs = told_registers (state_of arch seen);
+  regs = told_registers bad (state_of arch seen);
   psr = psr_of arch.ctl;
   wim = arch.wim;
   tbr = arch.ctl.tbr;

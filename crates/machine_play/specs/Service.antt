@@ -79,12 +79,21 @@ pub record IsLostTry (left : List Service) (lost : List Op) : Type 0 where
   pub is : left ≡ service_for store ∷ []
   pub part : IsTrue (is_part store.len)
 
--- behind the last operation that was made stands the fill or atomic of a load or atomic that stops the core, the transfer
--- of a store that was lost, or the fill of a load that the limit came before; nothing else, and no other store is lost
+-- the fill of a load that the end came before, if there is one, and no lost store
+abbrev pub IsUnusedFill : List Service → List Op → Type 0
+IsUnusedFill left lost = (length left ≤ 1) × (AllByRecursion IsLineFill left × (lost ≡ []))
+
+-- what an error trap of a word leaves: the fill or atomic of a load or atomic that stops the core, or the transfer of a store
+-- that was lost
+abbrev pub IsWordLeft : ℕ → List Service → List Op → Type 0
+IsWordLeft tt_ left lost = ((tt_ ≡ 0x09) × (IsStoppedTry left × (lost ≡ []))) ⊎ ((tt_ ≡ 0x2B) × IsLostTry left lost)
+
+-- behind the last operation that was made stands what an error trap of a word leaves, or the fill of a load that the limit or
+-- the stop at a bad register came before; nothing else, and no other store is lost
 abbrev pub IsLeft : CoreEnd → List Service → List Op → Type 0
 IsLeft (Halt tt_) left lost = (left ≡ []) × (lost ≡ [])
-IsLeft (Stop tt_ place syn) left lost = ((tt_ ≡ 0x09) × (IsStoppedTry left × (lost ≡ []))) ⊎ ((tt_ ≡ 0x2B) × IsLostTry left lost)
-IsLeft Limit left lost = (length left ≤ 1) × (AllByRecursion IsLineFill left × (lost ≡ []))
+IsLeft (Stop tt_ place syn) left lost = ((tt_ ≡ 0x20) × IsUnusedFill left lost) ⊎ IsWordLeft tt_ left lost
+IsLeft Limit left lost = IsUnusedFill left lost
 
 -- ---- kinds of transfers
 

@@ -1,6 +1,6 @@
 -- The transfers of one core without caches, as a trace tells them: each as its turn met memory, and one for each
 -- operation.
-use Rattle.std.specs.Prelude.{ℕ, ◌≡◌, ◌<◌, ◌+◌, ◌-◌, ◌*◌, ◌%◌, ◌⊎◌, List, [], ◌∷◌, ◌++◌, length, map, slice_get, IfSome, IsTrue}
+use Rattle.std.specs.Prelude.{ℕ, ◌≡◌, ◌<◌, ◌+◌, ◌*◌, ◌%◌, ◌⊎◌, List, [], ◌∷◌, ◌++◌, length, map, slice_get, IfSome, IsTrue}
 use Rattle.std.specs.List.{AllByRecursion, count_by, range_with_len}
 use Rattle.lf_model.specs.Start.{is_in_ram}
 use Rattle.lf_model.specs.Flips.{Moment, syndrome}

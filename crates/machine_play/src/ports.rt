@@ -1,25 +1,16 @@
-ghost use Rattle.std.specs.Prelude.{◌≡◌, ◌<◌, ◌≤◌, ◌+◌, ◌-◌, ◌*◌, ◌^◌, ◌++◌, ◌∷◌, [], vec_len, IfOk, replicate, slice_set};
-ghost use Rattle.lf_model.specs.State.{cell};
+ghost use Rattle.std.specs.Prelude.{◌≡◌, ◌<◌, ◌≤◌, ◌+◌, ◌-◌, ◌*◌, ◌^◌, ◌++◌, ◌∷◌, [], vec_len, All, IfOk, length};
+ghost use Rattle.leon_core.specs.RegistersState.{AimsAtCell, StartsWith};
 ghost use Rattle.machine_play.specs.Seen.{seen_of, room_of};
 
 use crate::parts::Parts;
 use crate::program::Program;
 use crate::record::record;
+use leon_core::Registers;
 use lf_model::addresses;
 use lf_model::bus::{Entry, OpKind, Why};
 use lf_model::step::{Full, Look, RegBad};
 use std::alloc::{AllocError, Global};
 use v8_exec::Ports;
-
-/// The register cells of core 0 at reset.
-fn reset_cells(alloc: Global) -> Result<Vec<u32>, AllocError>
-    ensures count { IfOk result (λ cells. vec_len cells ≡ 136) }
-    ensures cells { IfOk result (λ cells. cells.items ≡ slice_set (replicate 136 0) (cell 0 8) 0) }
-{
-    let mut cells = vec![in alloc; 0; 136]?;
-    cells[8] = 0;
-    Ok(cells)
-}
 
 impl<'a> Parts<'a> {
     /// The parts of core 0 at reset, with room for what so many steps may record: of each, an instruction and the turn of an
@@ -29,18 +20,20 @@ impl<'a> Parts<'a> {
         program: &'a Program<'a>,
         steps: u32,
     ) -> Result<Parts<'a>, AllocError>
+        requires few { length program.now.setup.now.flips ≤ 65536 }
+        requires aims { All (AimsAtCell 0) program.now.setup.now.flips }
         ensures program { IfOk result (λ parts. parts.program.now.setup.now ≡ program.entry.now.setup.now) }
-        ensures cells { IfOk result (λ parts. parts.cells.items ≡ slice_set (replicate 136 0) (cell 0 8) 0) }
+        ensures registers { IfOk result (λ parts. StartsWith 0 program.entry.now.setup.now.flips parts.registers) }
         ensures empty { IfOk result (λ parts. (parts.out.items ≡ []) × (parts.ops.items ≡ []) × (vec_len parts.ops ≡ 0)) }
         ensures room { IfOk result (λ parts. 2 * steps < 2 ^ 32 - 1 → 2 * steps ≤ room_of parts) }
     {
         let room = 2 * steps as usize;
-        let cells = reset_cells(alloc)?;
+        let registers = Registers::new(alloc, 0, &program.setup.flips)?;
         let out = Vec::with_capacity(alloc, room)?;
         let ops = Vec::with_capacity(alloc, room)?;
         Ok(Parts {
             program,
-            cells,
+            registers,
             out,
             ops,
             hand: None,
@@ -53,6 +46,7 @@ impl<'a> Parts<'a> {
         requires value { atomic.put < 2 ^ (8 * atomic.len) }
         ensures seen { seen_of self.new ≡ record (seen_of self.old) { ops = (seen_of self.old).ops ++ atomic ∷ [] } }
         ensures len { vec_len self.new.ops ≡ vec_len self.old.ops + 1 }
+        ensures registers { self.new.registers ≡ self.old.registers }
         ensures room { room_of self.old ≤ room_of self.new + 1 }
     {
         record(&mut self.ops, atomic);
@@ -60,12 +54,22 @@ impl<'a> Parts<'a> {
 }
 
 impl<'a> Ports for Parts<'a> {
+    ghost use Rattle.leon_core.specs.RegistersState.{struck_of};
+    ghost use Rattle.leon_core.specs.Upsets.{Struck, bad_cells, read_cell, write_cell};
     ghost use Rattle.machine_play.specs.Hand.{parts_with};
     ghost use Rattle.machine_play.specs.Seen.{seen_of, room_of};
 
     ghost seen = { seen_of };
 
-    ghost parts = { λ p. parts_with p.hand };
+    ghost parts = { λ p. parts_with (bad_cells (struck_of p.registers)) p.hand };
+
+    ghost Struck = { Struck };
+
+    ghost struck = { λ p. struck_of p.registers };
+
+    ghost read_cell = { read_cell };
+
+    ghost write_cell = { write_cell };
 
     ghost use Rattle.std.specs.Prelude.{⊤};
 
@@ -74,11 +78,11 @@ impl<'a> Ports for Parts<'a> {
     ghost room = { room_of };
 
     fn reg(&mut self, cell: usize) -> Result<u32, RegBad> {
-        Ok(self.cells[cell])
+        self.registers.read(cell)
     }
 
     fn set_reg(&mut self, cell: usize, v: u32) {
-        self.cells[cell] = v;
+        self.registers.write(cell, v);
     }
 
     fn load(&mut self, addr: u32, len: u8) -> Look {

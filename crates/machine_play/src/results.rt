@@ -1,39 +1,37 @@
 ghost use Rattle.std.specs.Prelude.{◌≡◌, ◌<◌, ◌≤◌, ◌*◌, ◌^◌, IfOk, length};
-ghost use Rattle.lf_model.specs.State.{register};
 ghost use Rattle.lf_model.specs.Step.{IsSound, state_of};
-ghost use Rattle.machine_play.specs.Seen.{seen_of};
-ghost use Rattle.machine_play.specs.Result.{told_registers, result_of, trace_of};
+ghost use Rattle.machine_play.specs.Seen.{seen_of, bad_in};
+ghost use Rattle.machine_play.specs.Result.{told_register, told_registers, result_of, trace_of};
 
 use crate::machine::Ending;
 use crate::parts::Parts;
-use ahb_bus::BusRecord;
 use lf_model::control::Arch;
 use lf_model::image::Bytes;
 use lf_model::listed::Listed;
-use lf_model::trace::{CoreResult, Four, Op, Regs, Trace};
+use lf_model::trace::{CoreResult, Fates, Four, Op, Regs, Trace, Transfers};
 use std::alloc::{AllocError, Global};
 
-/// The value of register `n` in the current window.
-fn register(arch: &Arch, parts: &Parts, n: u8) -> u32
+/// The value of register `n` in the current window; none where its cell is bad.
+fn register(arch: &Arch, parts: &Parts, n: u8) -> Option<u32>
     requires window { arch.now.ctl.cwp < 8 }
     requires register { n < 32 }
-    ensures { result ≡ register (state_of arch.now (seen_of parts.now)) n }
+    ensures { result ≡ told_register (bad_in parts.now) (state_of arch.now (seen_of parts.now)) n }
 {
     if n == 0 {
-        0
+        Some(0)
     } else {
-        parts.cells[v8_exec::cell(arch.ctl.cwp, n)]
+        parts.registers.peek(v8_exec::cell(arch.ctl.cwp, n))
     }
 }
 
 /// The 32 registers of the current window.
 fn registers(alloc: Global, arch: &Arch, parts: &Parts) -> Result<Regs, AllocError>
     requires { arch.now.ctl.cwp < 8 }
-    ensures { IfOk result (λ regs. regs ≡ told_registers (state_of arch.now (seen_of parts.now))) }
+    ensures { IfOk result (λ regs. regs ≡ told_registers (bad_in parts.now) (state_of arch.now (seen_of parts.now))) }
 {
     let mut regs = Vec::with_capacity(alloc, 32)?;
     for n in 0..32u8 {
-        regs.push(Some(register(arch, parts, n)))?;
+        regs.push(register(arch, parts, n))?;
     }
     Ok(Listed::from_vec(regs))
 }
@@ -46,7 +44,7 @@ pub fn result_of(
     ending: Ending,
 ) -> Result<CoreResult, AllocError>
     requires { IsSound arch.now }
-    ensures { IfOk result (λ r. r ≡ result_of arch.now (seen_of parts.entry) ending.steps ending.end) }
+    ensures { IfOk result (λ r. r ≡ result_of arch.now (seen_of parts.entry) (bad_in parts.entry) ending.steps ending.end) }
 {
     let regs = registers(alloc, arch, &parts)?;
     Ok(CoreResult {
@@ -70,14 +68,15 @@ pub fn result_of(
     })
 }
 
-/// The trace of one core on its bus.
+/// The trace of one core, with the bus's transfers, memory order and the fates of flips.
 pub fn trace_of(
     alloc: Global,
     core: CoreResult,
-    bus: BusRecord,
+    transfers: Transfers,
     order: Vec<Op>,
+    fates: Fates,
 ) -> Result<Trace, AllocError>
-    ensures { IfOk result (λ trace. trace ≡ trace_of core bus.transfers order.items bus.fates) }
+    ensures { IfOk result (λ trace. trace ≡ trace_of core transfers order.items fates) }
 {
     let mut cores = Listed::new(alloc);
     cores.push(core)?;
@@ -85,9 +84,9 @@ pub fn trace_of(
         cores,
         ahb_addr: 0,
         ahb_status: 0,
-        transfers: bus.transfers,
+        transfers,
         order: Listed::from_vec(order),
-        fates: bus.fates,
+        fates,
         watch: Listed::new(alloc),
     })
 }

@@ -1,8 +1,10 @@
 ghost use Rattle.std.specs.Prelude.{◌≡◌, ◌<◌, ◌+◌, ◌-◌, ◌%◌, ◌^◌, ◌≤◌, [], ℕ, vec_len, IfOk};
 ghost use Rattle.std.specs.Vec.{vec_capacity};
 ghost use Rattle.lf_model.specs.State.{reset_control};
+ghost use Rattle.lf_model.specs.StopCause.{cell_of_end};
 ghost use Rattle.machine_play.specs.Machine.{Going};
 ghost use Rattle.machine_play.specs.Ending.{Ended};
+ghost use Rattle.machine_play.specs.Cells.{HasCells, HasLastCells};
 ghost use Rattle.machine_play.specs.Playable.{IsPlayable};
 ghost use Rattle.machine_play.specs.Played.{IsPlayed};
 
@@ -13,8 +15,11 @@ use crate::{results, step};
 use ahb_bus::Bus;
 use lf_model::control::{Arch, Ctl};
 use lf_model::setup::Setup;
-use lf_model::trace::{CoreEnd, Trace, Word2};
+use lf_model::trace::{CoreEnd, Fates, Trace, Word2};
 use std::alloc::{AllocError, Global};
+
+/// The trap type of a bad register: `r_register_access_error`.
+const REGISTER_ERROR: u8 = 0x20;
 
 /// The state registers of core 0 at reset.
 fn reset_arch(entry: u32) -> Arch
@@ -46,6 +51,7 @@ fn reset<'a>(alloc: Global, program: &'a Program<'a>) -> Result<Machine<'a>, All
     requires playable { IsPlayable program.now.setup.now }
     ensures program { IfOk result (λ m. m.program.now.setup.now ≡ program.entry.now.setup.now) }
     ensures going { IfOk result (λ m. Going program.entry.now.setup.now 0 m) }
+    ensures cells { IfOk result (λ m. HasCells program.entry.now.setup.now 0 m) }
 {
     let setup = program.setup;
     let steps = setup.config.steps;
@@ -62,8 +68,10 @@ fn reset<'a>(alloc: Global, program: &'a Program<'a>) -> Result<Machine<'a>, All
 /// Runs the core to its end.
 fn run(m: &mut Machine) -> Ending
     requires going { Going m.old.program.now.setup.now 0 m.old }
+    requires cells { HasCells m.old.program.now.setup.now 0 m.old }
     requires limit { m.old.program.now.setup.now.config.steps < 2 ^ 32 - 1 }
     ensures ended { Ended m.old.program.now.setup.now result m.new }
+    ensures cells { HasLastCells m.old.program.now.setup.now result m.new }
 {
     let limit = m.program.setup.config.steps;
     for steps in 0..limit {
@@ -86,11 +94,26 @@ fn named_words(named: &Option<Word2>) -> &[Word2] {
     }
 }
 
-/// Runs an image on one core without caches, over coded memory that the script's flips strike, from reset to its end.
+/// The register cell that a stop names, if there is one.
+fn named_cell(end: CoreEnd) -> Option<u32>
+    ensures { result ≡ cell_of_end end }
+{
+    match end {
+        CoreEnd::Stop {
+            tt: REGISTER_ERROR,
+            place,
+            ..
+        } => Some(place),
+        _ => None,
+    }
+}
+
+/// Runs an image on one core without caches, whose registers and memory are under a code and struck by the script's flips,
+/// from reset to its end.
 ///
 /// The setup has one core, no scrubber and no watched words; RAM is a multiple of 65,536 bytes, to 16,777,216; the core
-/// makes 1 to 4,000,000 steps; the image can be loaded, and each of at most 65,536 flips of memory is for a bit of a word
-/// in RAM. Flips of other units are late. All records are reserved before the first step.
+/// makes 1 to 4,000,000 steps; the image can be loaded, and each of at most 65,536 flips is for a bit of a word in RAM or of a
+/// register cell of the core. Flips of other units are late. All records are reserved before the first step.
 ///
 /// # Errors
 ///
@@ -110,7 +133,9 @@ pub fn play(alloc: Global, s: &Setup) -> Result<Trace, AllocError>
         bus,
         order,
     } = machine;
-    let core = results::result_of(alloc, &arch, parts, ending)?;
     let bus = bus.finish(named_words(&ending.named));
-    results::trace_of(alloc, core, bus, order)
+    let mut fates = bus.fates.into_vec();
+    parts.registers.tell(named_cell(ending.end), &mut fates);
+    let core = results::result_of(alloc, &arch, parts, ending)?;
+    results::trace_of(alloc, core, bus.transfers, order, Fates::from_vec(fates))
 }

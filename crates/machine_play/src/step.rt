@@ -1,7 +1,8 @@
-ghost use Rattle.std.specs.Prelude.{◌≡◌, ◌<◌, ◌≤◌, ◌+◌, ◌-◌, ◌*◌, ◌/◌, ◌%◌, ◌^◌, ◌==◌, ◌&&◌, Some, None, if◌then◌else◌, slice_get, false, slice_index_or};
+ghost use Rattle.std.specs.Prelude.{◌≡◌, ◌<◌, ◌≤◌, ◌+◌, ◌-◌, ◌*◌, ◌/◌, ◌%◌, ◌^◌, ◌==◌, ◌&&◌, Some, None, if◌then◌else◌, slice_get, true, false, slice_index_or, IfNone, IfSome, OnSome};
 ghost use Rattle.machine_play.specs.Machine.{op_in, lost_in, Going};
 ghost use Rattle.machine_play.specs.Midstep.{Retiring, Storing, Reading, Exchanging, Finishing, number_read};
 ghost use Rattle.machine_play.specs.Ending.{Ended, StepsOn};
+ghost use Rattle.machine_play.specs.Cells.{HasCells, HasBegunCells, CellsOn, Turns, Completes, Exchanges, StopsIn};
 
 use crate::execute::execute;
 use crate::hand::Hand;
@@ -12,7 +13,7 @@ use lf_model::bus::{Bad, Entry, OpKind, Pending};
 use lf_model::step::{Did, Turn};
 use lf_model::trace::{CoreEnd, Op, Word2};
 
-/// The trap type of a load or an atomic that wants a bad word: `data_access_error`.
+/// The trap type of a load or an atomic that wants a bad word: `data_access_exception`.
 const DATA_ERROR: u8 = 0x09;
 
 /// The trap type of a part store that meets a bad word: `data_store_error`.
@@ -86,6 +87,8 @@ fn store(m: &mut Machine, entry: &Entry, step: u32) -> Option<Ending>
     requires limit { m.old.program.now.setup.now.config.steps < 2 ^ 32 }
     ensures program { m.new.program.now.setup.now ≡ m.old.program.now.setup.now }
     ensures on { StepsOn m.old.program.now.setup.now step result m.new }
+    ensures turns { Turns false step m.old m.new }
+    ensures stop { IfSome result (StopsIn 0x2b step) }
 {
     match store_turn(&mut m.bus, entry, step) {
         Ok(()) => {
@@ -105,6 +108,8 @@ fn retire(m: &mut Machine, step: u32) -> Option<Ending>
     requires limit { m.old.program.now.setup.now.config.steps < 2 ^ 32 }
     ensures program { m.new.program.now.setup.now ≡ m.old.program.now.setup.now }
     ensures on { StepsOn m.old.program.now.setup.now step result m.new }
+    ensures turns { Turns false step m.old m.new }
+    ensures stop { IfSome result (StopsIn 0x2b step) }
 {
     let made = m.order.len();
     let Some(entry) = newest(&m.parts.ops, made) else {
@@ -143,6 +148,8 @@ fn read_line(m: &mut Machine, addr: u32, len: u8, step: u32) -> Option<Ending>
     requires limit { m.old.program.now.setup.now.config.steps < 2 ^ 32 }
     ensures program { m.new.program.now.setup.now ≡ m.old.program.now.setup.now }
     ensures on { StepsOn m.old.program.now.setup.now step result m.new }
+    ensures turns { Turns true step m.old m.new }
+    ensures stop { IfSome result (StopsIn 0x09 step) }
 {
     let line = addr - addr % 32;
     let read = load_turn(&mut m.bus, line, step);
@@ -182,6 +189,8 @@ fn finish(m: &mut Machine, asked: &Pending, rd: u8, word: u32)
     requires limit { m.old.program.now.setup.now.config.steps < 2 ^ 32 - 1 }
     ensures program { m.new.program.now.setup.now ≡ m.old.program.now.setup.now }
     ensures going { Going m.old.program.now.setup.now (asked.now.step + 1) m.new }
+    ensures completes { Completes m.old.program.now.setup.now m.old m.new }
+    ensures bus { m.new.bus ≡ m.old.bus }
 {
     let got = number_read(word, asked.addr, asked.len);
     let made = Entry {
@@ -204,6 +213,9 @@ fn exchange(m: &mut Machine, asked: &Pending, rd: u8) -> Option<Ending>
     requires limit { m.old.program.now.setup.now.config.steps < 2 ^ 32 - 1 }
     ensures program { m.new.program.now.setup.now ≡ m.old.program.now.setup.now }
     ensures on { StepsOn m.old.program.now.setup.now asked.now.step result m.new }
+    ensures finished { IfNone result (Exchanges m.old.program.now.setup.now asked.now.step m.old m.new) }
+    ensures turns { OnSome result (Turns false asked.now.step m.old m.new) }
+    ensures stop { IfSome result (StopsIn 0x09 asked.now.step) }
 {
     match atomic_turn(&mut m.bus, asked) {
         Ok(word) => {
@@ -214,13 +226,15 @@ fn exchange(m: &mut Machine, asked: &Pending, rd: u8) -> Option<Ending>
     }
 }
 
-/// One step of the core.
-pub fn step(m: &mut Machine, step: u32) -> Option<Ending>
+/// Makes the instruction at PC, in a step that is begun.
+fn perform(m: &mut Machine, step: u32) -> Option<Ending>
     requires going { Going m.old.program.now.setup.now step m.old }
+    requires cells { HasBegunCells m.old.program.now.setup.now step m.old }
     requires left { step < m.old.program.now.setup.now.config.steps }
     requires limit { m.old.program.now.setup.now.config.steps < 2 ^ 32 - 1 }
     ensures program { m.new.program.now.setup.now ≡ m.old.program.now.setup.now }
     ensures on { StepsOn m.old.program.now.setup.now step result m.new }
+    ensures cells { CellsOn m.old.program.now.setup.now step result m.new }
 {
     match execute(m.program, &mut m.arch, &mut m.parts, m.hand) {
         Did::Retired => retire(m, step),
@@ -236,6 +250,22 @@ pub fn step(m: &mut Machine, step: u32) -> Option<Ending>
             exchange(m, &asked, rd)
         }
         Did::Halt(tt) => ended(CoreEnd::Halt(tt), step, None),
-        Did::Turned | Did::Need(_) | Did::Stop { .. } => unreachable!(),
+        Did::Stop { tt, place, syn } => ended(CoreEnd::Stop { tt, place, syn }, step, None),
+        Did::Turned | Did::Need(_) => unreachable!(),
     }
+}
+
+/// One step of the core: the script's flips for it strike, and the instruction at PC is made.
+pub fn step(m: &mut Machine, step: u32) -> Option<Ending>
+    requires going { Going m.old.program.now.setup.now step m.old }
+    requires cells { HasCells m.old.program.now.setup.now step m.old }
+    requires left { step < m.old.program.now.setup.now.config.steps }
+    requires limit { m.old.program.now.setup.now.config.steps < 2 ^ 32 - 1 }
+    ensures program { m.new.program.now.setup.now ≡ m.old.program.now.setup.now }
+    ensures on { StepsOn m.old.program.now.setup.now step result m.new }
+    ensures cells { CellsOn m.old.program.now.setup.now step result m.new }
+{
+    let parts = &mut m.parts;
+    parts.registers.start_step();
+    perform(m, step)
 }

@@ -1,5 +1,6 @@
 ghost use Rattle.std.specs.Prelude.{◌≡◌, ◌≤◌, ◌∷◌, [], true, false, vec_len, All, IsTrue, IfOk};
 ghost use Rattle.ahb_bus.specs.BusState.{AimsInRam};
+ghost use Rattle.leon_core.specs.RegistersState.{AimsAtCell};
 ghost use Rattle.machine_play.specs.Playable.{IsPlayable};
 
 use crate::play;
@@ -14,6 +15,8 @@ use lf_model::trace::{CoreEnd, Fate, Trace};
 use std::alloc::{AllocError, Global};
 use std::process::Abort;
 use std::test::Fail;
+
+mod registers;
 
 const RAM: u32 = 65_536;
 
@@ -376,16 +379,19 @@ const ROWS: [Row; 13] = [
 ];
 
 fn is_aimed(flip: &Flip) -> bool
-    ensures { IsTrue result → AimsInRam RAM flip.now }
+    ensures ram { IsTrue result → AimsInRam RAM flip.now }
+    ensures cell { IsTrue result → AimsAtCell 0 flip.now }
 {
     match *flip {
         Flip::Mem { addr, bit, .. } => is_in_ram(RAM, addr, 4) && addr % 4 == 0 && bit < 39,
+        Flip::Reg { cell, bit, .. } => cell < 136 && bit < 39,
         _ => true,
     }
 }
 
 fn all_aimed(flips: &[Flip]) -> bool
-    ensures { IsTrue result → All (AimsInRam RAM) flips.now }
+    ensures ram { IsTrue result → All (AimsInRam RAM) flips.now }
+    ensures cells { IsTrue result → All (AimsAtCell 0) flips.now }
 {
     for flip in flips {
         if !is_aimed(flip) {
@@ -460,6 +466,7 @@ fn config(alloc: Global) -> Config
 fn setup(alloc: Global, program: &[u8; 20], flips: Vec<Flip>) -> Result<Setup, AllocError>
     requires few { vec_len flips ≤ 65536 }
     requires aims { All (AimsInRam RAM) flips.items }
+    requires cells { All (AimsAtCell 0) flips.items }
     ensures { IfOk result IsPlayable }
 {
     Ok(Setup {

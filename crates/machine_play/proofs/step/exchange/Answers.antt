@@ -1,9 +1,13 @@
-use Rattle.std.proofs.Common.{◌≡◌, Option, ap, refl, sym, subst}
+use Rattle.std.proofs.Common.{Option, false, ap, refl, sym, subst}
+use Rattle.std.specs.Option.{OnSome}
+use Rattle.ahb_bus.specs.BusState.{BusState}
+use Rattle.machine_play.specs.Cells.{MakesTurn, Turns}
 use Rattle.machine_play.specs.declared.machine.Ending.{Ending}
 use Rattle.machine_play.specs.declared.turn.BadMet.{BadMet}
 use Rattle.machine_play.specs.Ending.{StepsOn}
 use Rattle.machine_play.proofs.ExchangeLemmas.{finishing_from}
 use Rattle.machine_play.proofs.StopLemmas.{HasRefused, ended_atomic}
+use Rattle.machine_play.proofs.TurnedLemmas.{atomic_turned, refused_turn}
 use Rattle.machine_play.proofs.step.exchange.Goals as goal
 
 pub finish-requires : goal.finish-requires
@@ -32,3 +36,30 @@ returns-in-Err-clause-on c =
     } in
     subst (λ (o : Option Ending). StepsOn setup asked.step o (record m { bus = c.atomic_turn.new.bus })) (sym c.stopped.ensures)
     (ended_atomic setup asked c.args.rd c.in-Err.met.turn c.in-Err.met.bad.syn m c.atomic_turn.new.bus _ refused)
+
+pub returns-in-Ok-clause-finished : goal.returns-in-Ok-clause-finished
+returns-in-Ok-clause-finished c =
+    let m = c.args.m.now in
+    let setup = m.program.now.setup.now in
+    record {
+      completes = record {
+        entry = c.finish.ensures.completes.entry;
+        struck = c.finish.ensures.completes.struck;
+        ops = c.finish.ensures.completes.ops;
+        n = c.finish.ensures.completes.n;
+      };
+      turn = subst (λ (bus : BusState). MakesTurn false c.args.asked.now.step m.bus.transfers bus.transfers) (sym c.finish.ensures.bus)
+          (atomic_turned setup c.args.asked.now c.args.rd m c.atomic_turn.new.bus c.requires.exchanging (c.in-Ok.ensures.made refl));
+    }
+
+pub returns-in-Err-clause-turns : goal.returns-in-Err-clause-turns
+returns-in-Err-clause-turns c =
+    let m = c.args.m.now in
+    let setup = m.program.now.setup.now in
+    let turns : Turns false c.args.asked.now.step m (record m { bus = c.atomic_turn.new.bus }) = record {
+      struck = refl;
+      ops = refl;
+      n = refl;
+      turn = refused_turn setup c.args.asked.now c.args.rd m c.atomic_turn.new.bus c.requires.exchanging (c.in-Err.ensures.unwritten refl);
+    } in
+    subst (λ (o : Option Ending). OnSome o (Turns false c.args.asked.now.step m (record m { bus = c.atomic_turn.new.bus }))) (sym c.stopped.ensures) turns

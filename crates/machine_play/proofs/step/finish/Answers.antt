@@ -1,15 +1,17 @@
-use Rattle.std.proofs.Common.{◌≡◌, ◌∙◌, ◌++◌, ◌∷◌, [], ℕ, ap, sym, subst, arith}
+use Rattle.std.proofs.Common.{◌∙◌, ◌++◌, ◌∷◌, [], ℕ, List, ap, refl, subst, arith}
 use Rattle.lf_model.specs.Step.{Parts as Answers, Seen}
 use Rattle.lf_model.specs.declared.bus.Entry.{Entry}
 use Rattle.lf_model.specs.declared.instruction.Instr.{Instr}
 use Rattle.lf_model.specs.declared.step.Turn.TheVariants.{Atomic}
 use Rattle.lf_model.specs.declared.trace.Op.{Op}
+use Rattle.leon_core.specs.RegistersState.{struck_of}
 use Rattle.v8_exec.specs.Accesses.{Finishes}
-use Rattle.machine_play.specs.Seen.{seen_of}
+use Rattle.machine_play.specs.Seen.{seen_of, struck_in, run_of}
 use Rattle.machine_play.specs.Machine.{op_in}
 use Rattle.machine_play.specs.Midstep.{atomic_entry}
 use Rattle.machine_play.proofs.StepLemmas.{IsPushed}
 use Rattle.machine_play.proofs.ExchangeLemmas.{IsFinished, made_entry, going_finished}
+use Rattle.machine_play.proofs.TurnedLemmas.{finished_cells}
 use Rattle.machine_play.proofs.step.finish.Goals as goal
 
 pub finish_atomic-requires-clause-instructions : goal.finish_atomic-requires-clause-instructions
@@ -42,3 +44,21 @@ returns-clause-going c =
       left = c.record.ensures.left;
     } in
     going_finished setup asked c.args.rd c.args.word m c.finish_atomic.new.a c.finish_atomic.new.p c.note.new.self c.record.new.items done pushed
+
+pub returns-clause-completes : goal.returns-clause-completes
+returns-clause-completes c =
+    let m = c.args.m.now in
+    let setup = m.program.now.setup.now in
+    let asked = c.args.asked.now in
+    let got : ℕ = c.number_read-got.result in
+    let f = c.requires.finishing in
+    record {
+      entry = atomic_entry asked c.args.word;
+      struck = ap struck_of c.note.ensures.registers
+          ∙ finished_cells setup m.arch (seen_of m.parts) asked.addr asked.len asked.value c.args.rd (struck_in m.parts) (struck_in c.finish_atomic.new.p) f.core.is.site (run_of m.arch m.parts) refl f.atomic
+          c.finish_atomic.ensures.cells;
+      ops = ap (λ (s : Seen). s.ops) c.note.ensures.seen
+          ∙ ap (λ (e : Entry). (seen_of c.finish_atomic.new.p).ops ++ e ∷ []) (made_entry asked c.args.word got c.from.result c.number_read-got.ensures c.from.ensures)
+          ∙ ap (λ (es : List Entry). es ++ atomic_entry asked c.args.word ∷ []) c.finish_atomic.ensures.ops;
+      n = c.finish_atomic.ensures.counts.1;
+    }

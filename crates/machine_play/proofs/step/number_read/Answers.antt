@@ -1,4 +1,4 @@
-use Rattle.std.proofs.Common.{◌≡◌, ◌%◌, ◌-◌, ◌∙◌, Bool, cond, ap, sym}
+use Rattle.std.proofs.Common.{◌%◌, ◌-◌, ◌∙◌, Bool, cond, ap, sym}
 use Rattle.std.proofs.lemmas.Bool.{ne_eqb}
 use Rattle.lf_model.specs.Operation.{byte_of}
 use Rattle.machine_play.proofs.NumberLemmas.{shifted}

@@ -3,6 +3,7 @@ use Rattle.std.specs.List.{slice_get}
 use Rattle.lf_model.specs.declared.trace.Op.{Op}
 use Rattle.machine_play.specs.Machine.{op_in}
 use Rattle.machine_play.proofs.StepLemmas.{newest_at, IsPushed, makes_store, makes_load, can_store, going_load}
+use Rattle.machine_play.proofs.CellLemmas.{no_turn}
 use Rattle.machine_play.proofs.step.retire.Goals as goal
 
 pub store-requires-clause-storing : goal.store-requires-clause-storing
@@ -30,4 +31,13 @@ returns-in_default-kind c =
       len = c.record.ensures.len;
       left = c.record.ensures.left;
     } in
-    record { program = refl; on = going_load setup c.args.step m c.record.new.items entry r makes pushed }
+    record {
+      program = refl;
+      on = going_load setup c.args.step m c.record.new.items entry r makes pushed;
+      turns = record { struck = refl; ops = refl; n = refl; turn = no_turn c.args.step m.bus.transfers r.turns.below };
+      stop = tt;
+    }
+
+pub returns-in_default-clause-turns : goal.returns-in_default-clause-turns
+returns-in_default-clause-turns c =
+    record { struck = refl; ops = refl; n = refl; turn = no_turn c.args.step c.args.m.now.bus.transfers c.requires.retiring.turns.below }

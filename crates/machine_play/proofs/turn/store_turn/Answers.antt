@@ -1,5 +1,4 @@
 use Rattle.std.proofs.Common.{◌≡◌, false, true, subst, IsTrue, length}
-use Rattle.lf_model.specs.declared.bus.Bad.{Bad}
 use Rattle.lf_model.specs.declared.bus.Why.TheVariants.{Full}
 use Rattle.ft_memory.specs.Parts.{word_address}
 use Rattle.ahb_bus.specs.BusState.{BusState, after_turn}
