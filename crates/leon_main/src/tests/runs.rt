@@ -62,18 +62,17 @@ pub const QUIET: Run = Run {
 };
 
 /// A byte is written to the output word.
-const WRITES: Run = Run {
-    row: Row {
-        words: &OUTPUT,
-        end: "halt 80 4 4",
-        out: "41",
-        globals: "00000000 80000000 00000000 00000000 00000000 00000000 00000000 00000000",
-        outs: "00000041 00000000 00000000 00000000 00000000 00000000 00000000 00000000",
-        pcs: "4000000C 40000010",
-        ..ZERO
-    },
-    ..QUIET
+const BYTE: Row = Row {
+    words: &OUTPUT,
+    end: "halt 80 4 4",
+    out: "41",
+    globals: "00000000 80000000 00000000 00000000 00000000 00000000 00000000 00000000",
+    outs: "00000041 00000000 00000000 00000000 00000000 00000000 00000000 00000000",
+    pcs: "4000000C 40000010",
+    ..ZERO
 };
+
+const WRITES: Run = Run { row: BYTE, ..QUIET };
 
 /// A word is loaded from 40001000, and its low byte written to the output word.
 const LOAD: Row = Row {
@@ -91,7 +90,7 @@ const LOAD: Row = Row {
     ..ZERO
 };
 
-static RUNS: [Run; 6] = [
+static RUNS: [Run; 9] = [
     WRITES,
     // A word is stored to 40001000 and loaded from there.
     Run {
@@ -143,6 +142,37 @@ static RUNS: [Run; 6] = [
         transfers: "1\nt 0 0 2 load absent 40001000 0 0000000000000000",
         order: "1\nL 0 0 3 40001000 00000000 0",
         flips: "3\nf 0 dormant\nf 1 dormant\nf 2 declined",
+        ..QUIET
+    },
+    // One flip of a register is put right.
+    Run {
+        row: BYTE,
+        script: "reg 0 2 1 0\n",
+        flips: "1\nf 0 repaired",
+        ..QUIET
+    },
+    // Two flips of a register stop the core.
+    Run {
+        row: Row {
+            end: "stop 20 2 3 1 05",
+            out: "-",
+            globals: "00000000 -------- 00000000 00000000 00000000 00000000 00000000 00000000",
+            pcs: "40000008 4000000C",
+            ..BYTE
+        },
+        script: "reg 0 2 1 0\nreg 0 2 1 1\n",
+        status: 10,
+        flips: "2\nf 0 stopped\nf 1 stopped",
+        ..QUIET
+    },
+    // A register that is not read is told without a value.
+    Run {
+        row: Row {
+            globals: "00000000 80000000 00000000 00000000 00000000 -------- 00000000 00000000",
+            ..BYTE
+        },
+        script: "reg 0 0 5 0\nreg 0 0 5 1\n",
+        flips: "2\nf 0 dormant\nf 1 dormant",
         ..QUIET
     },
     // A loop that does not end.
