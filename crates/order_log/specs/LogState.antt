@@ -9,8 +9,9 @@ pub record LogState : Type 0 where
   -- how many it has room for in all
   pub room : ℕ
 
--- an entry is a store or an atomic as it can reach memory
-pub record Reaches (e : Entry) : Type 0 where
+-- what the log asks of an entry: a store or an atomic of one, two, four or eight bytes, at a multiple of its length, with a
+-- number that these bytes hold
+pub record IsLogEntry (e : Entry) : Type 0 where
   pub kind : kind_enters e.kind ≡ true
   pub len : Contains (1 ∷ 2 ∷ 4 ∷ 8 ∷ []) e.len
   pub aligned : e.addr % e.len ≡ 0

@@ -1,7 +1,7 @@
 ghost use Rattle.std.specs.Prelude.{◌≡◌, ◌<◌, ◌≤◌, ◌↔◌, ℕ, [], ◌∷◌, ◌++◌, false, length, take, All, IsTrue, IsNone, IfOk, slice_get, unwrap_or};
 ghost use Rattle.lf_model.specs.Operation.{touches, byte_put};
 ghost use Rattle.lf_model.specs.Value.{stored};
-ghost use Rattle.order_log.specs.LogState.{Reaches};
+ghost use Rattle.order_log.specs.LogState.{IsLogEntry};
 
 use lf_model::bus::Entry;
 use std::alloc::{AllocError, Global};
@@ -20,8 +20,8 @@ fn byte_put(entry: &Entry, addr: u32) -> u8
     requires len { entry.now.len ≤ 8 }
     ensures { result ≡ byte_put addr entry.now }
 {
-    let behind = u32::from(entry.len) - 1 - (addr - entry.addr);
-    ((entry.put >> (8 * behind)) % 256) as u8
+    let after = u32::from(entry.len) - 1 - (addr - entry.addr);
+    ((entry.put >> (8 * after)) % 256) as u8
 }
 
 /// The stores and atomics that reached memory, in the order in which they did. Contracts see it as the list of these entries
@@ -68,7 +68,7 @@ impl Log {
     /// Puts an entry at the end, in the room that was reserved.
     pub fn push(&mut self, e: Entry)
         requires room { length self.old.entries < self.old.room }
-        requires reaches { Reaches e }
+        requires entry { IsLogEntry e }
         ensures grown { self.new ≡ record self.old { entries = self.old.entries ++ e ∷ [] } }
     {
         self.entries.push_reserved(e);
@@ -78,7 +78,7 @@ impl Log {
     pub fn at(&self, i: u32) -> Entry
         requires { i < length self.now.entries }
         ensures entry { slice_get self.now.entries i ≡ Some result }
-        ensures reaches { Reaches result }
+        ensures kept { IsLogEntry result }
     {
         self.entries[i as usize]
     }
