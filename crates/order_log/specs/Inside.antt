@@ -1,5 +1,5 @@
 -- What a log keeps, and what of it its users see.
-use Rattle.std.specs.Prelude.{ℕ, ◌≤◌, ◌<◌, ◌^◌, All, vec_len, vec_capacity}
+use Rattle.std.specs.Prelude.{◌≤◌, ◌<◌, ◌^◌, All, vec_len, vec_capacity}
 use Rattle.order_log.specs.declared.log.Log.TheInside.{Inside}
 use Rattle.order_log.specs.LogState.{LogState, IsLogEntry}
 

@@ -24,8 +24,8 @@ fn byte_put(entry: &Entry, addr: u32) -> u8
     ((entry.put >> (8 * after)) % 256) as u8
 }
 
-/// The stores and atomics that reached memory, in the order in which they did. Contracts see it as the list of these entries
-/// and how many it has room for.
+/// The stores and atomics that reached memory, in the order in which they did (SPARC V8, chapter 6, memory model). Contracts
+/// see it as the list of these entries, and how many it has room for in all.
 #[derive(Drop)]
 pub struct Log {
     entries: Vec<Entry>,
@@ -44,7 +44,7 @@ impl Model for Log {
 }
 
 impl Log {
-    /// A log with no entries, and all the memory that so many take.
+    /// A log with no entries, and the memory for all that it has room for.
     ///
     /// # Errors
     ///
@@ -65,7 +65,8 @@ impl Log {
         self.entries.len() as u32
     }
 
-    /// Puts an entry at the end, in the room that was reserved.
+    /// Puts an entry at the end, in the room that was reserved: a store or an atomic of 1, 2, 4 or 8 bytes at a multiple of
+    /// its length.
     pub fn push(&mut self, e: Entry)
         requires room { length self.old.entries < self.old.room }
         requires entry { IsLogEntry e }
@@ -77,8 +78,8 @@ impl Log {
     /// Entry number `i`, from 0.
     pub fn at(&self, i: u32) -> Entry
         requires { i < length self.now.entries }
-        ensures entry { slice_get self.now.entries i ≡ Some result }
-        ensures kept { IsLogEntry result }
+        ensures listed { slice_get self.now.entries i ≡ Some result }
+        ensures entry { IsLogEntry result }
     {
         self.entries[i as usize]
     }
@@ -86,6 +87,7 @@ impl Log {
     /// The byte last stored at an address by the first `i` entries, if one of them stored it.
     pub fn byte_after(&self, i: u32, addr: u32) -> Option<u8>
         requires { i ≤ length self.now.entries }
+        // Whatever the byte was before them.
         ensures byte { (before : ℕ) → stored addr (take i self.now.entries) before ≡ unwrap_or result before }
         ensures none { IsNone result ↔ All (λ e. touches addr e ≡ false) (take i self.now.entries) }
     {

@@ -1,5 +1,5 @@
 -- What a store buffer keeps, and what of it its users see.
-use Rattle.std.specs.Prelude.{ℕ, ◌≤◌}
+use Rattle.std.specs.Prelude.{◌≤◌}
 use Rattle.arrayvec.specs.ArrayVec.{array_vec_len}
 use Rattle.store_buffer.specs.declared.buffer.Buffer.TheInside.{Inside}
 use Rattle.store_buffer.specs.BufferState.{BufferState}

@@ -9,8 +9,8 @@ use std::marker::Model;
 /// The stores that a buffer has places for.
 const MOST: usize = 8;
 
-/// The stores of a core that wait for the bus, at most `depth` of them. Contracts see it as the list of these stores, the
-/// oldest first, and its depth.
+/// The stores of a core that wait for the bus, in the order in which the core made them (SPARC V8, chapter 6, memory model).
+/// Contracts see it as the list of these stores, the oldest first, and its depth: how many may wait.
 #[derive(Drop)]
 pub struct Buffer {
     waiting: ArrayVec<Place, MOST>,
@@ -54,7 +54,7 @@ impl Buffer {
     ///
     /// # Errors
     ///
-    /// As many stores wait as the depth says; nothing is changed.
+    /// As many stores wait as may; then nothing is changed.
     pub fn push(&mut self, p: Pending) -> Result<(), Full>
         ensures room { IsOk result ↔ (length self.old.waiting < self.old.depth) }
         ensures added { OnOk result (self.new ≡ record self.old { waiting = self.old.waiting ++ p ∷ [] }) }

@@ -1,4 +1,4 @@
-use Rattle.std.proofs.Common.{◌≡◌, ℕ, suc, ◌-◌, ◌∙◌, sym, subst, take, drop, arith}
+use Rattle.std.proofs.Common.{◌≡◌, suc, ◌-◌, ◌∙◌, sym, subst, take, drop, arith}
 use Rattle.order_log.proofs.StoredLemmas.{LeaveAlone, stored_untouched, stored_last}
 use Rattle.order_log.proofs.log.Log.byte_after.Goals as goal
 
