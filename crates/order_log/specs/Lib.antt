@@ -1,0 +1,2 @@
+pub mod LogState
+pub mod Inside

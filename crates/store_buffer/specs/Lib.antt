@@ -1,0 +1,2 @@
+pub mod BufferState
+pub mod Inside

@@ -1,0 +1,9 @@
+//! The store buffer of one core: its stores that wait for the bus, first in, first out. No call takes memory.
+#![tactic(auto)]
+
+mod buffer;
+mod place;
+#[cfg(test)]
+mod tests;
+
+pub use buffer::Buffer;
