@@ -1,4 +1,4 @@
-/* The mean of three samples, 21. They stand in one word of memory with a flag that says that they were used: the loads
+/* The mean of three samples, 21. They share a word of memory with a flag that says that they were used: the loads
    of the samples read that word, and the store of the flag, one byte, reads and writes it. */
 void putchar(int c);
 

@@ -54,8 +54,14 @@ mod tests {
         let rows = [
             (ConfigErr::Text, "the text is no TOML document"),
             (ConfigErr::Key, "there is an unknown key"),
-            (ConfigErr::Kind(Key::Ram), "the value of machine.ram is of another kind"),
-            (ConfigErr::Range(Key::LoadSets), "the value of dcache.sets is out of its range"),
+            (
+                ConfigErr::Kind(Key::Ram),
+                "the value of machine.ram is of another kind",
+            ),
+            (
+                ConfigErr::Range(Key::LoadSets),
+                "the value of dcache.sets is out of its range",
+            ),
             (ConfigErr::Memory, "no memory is left"),
         ];
         for (error, want) in rows {

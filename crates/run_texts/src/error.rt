@@ -93,7 +93,10 @@ mod tests {
         let rows = [
             (TextWhy::Word, "line 7: the first field is not known"),
             (TextWhy::Many, "line 7: there are too many flips"),
-            (TextWhy::Count, "line 7: there are too few or too many fields"),
+            (
+                TextWhy::Count,
+                "line 7: there are too few or too many fields",
+            ),
             (TextWhy::Number, "line 7: a field is not of its form"),
             (TextWhy::Range, "line 7: a value is out of its range"),
         ];
