@@ -1,8 +1,10 @@
-use crate::refusal::Fault;
+use crate::refusal::{Fault, refusal_name};
 use std::alloc::AllocError;
+use std::error::Error;
+use std::fmt;
 
 /// Why a file gave no image.
-#[derive(Clone, Copy, Debug)]
+#[derive(Clone, Copy, Debug, PartialEq, Eq)]
 pub enum ImageErr {
     /// The bytes are refused.
     Refused {
@@ -14,6 +16,19 @@ pub enum ImageErr {
     /// Memory ran out.
     Memory,
 }
+
+impl fmt::Display for ImageErr {
+    fn fmt<W: fmt::Write>(&self, f: &mut fmt::Formatter<W>) -> fmt::Result {
+        match self {
+            ImageErr::Refused { number, offset } => {
+                write!(f, "refused at byte {offset}: {}", refusal_name(*number))
+            }
+            ImageErr::Memory => f.write_str("no memory is left"),
+        }
+    }
+}
+
+impl Error for ImageErr {}
 
 impl From<AllocError> for ImageErr {
     ghost use Rattle.std.specs.Prelude.{◌≡◌};
@@ -38,5 +53,28 @@ impl From<Fault> for ImageErr {
             number: fault.refusal.number(),
             offset: fault.offset,
         }
+    }
+}
+
+#[cfg(test)]
+mod tests {
+    use super::*;
+    use std::test::Fail;
+
+    #[test]
+    fn prints_errors(rt: HostRuntime) -> Result<(), Fail> {
+        let refused = ImageErr::Refused {
+            number: 8,
+            offset: 18,
+        };
+        let rows = [
+            (refused, "refused at byte 18: Machine"),
+            (ImageErr::Memory, "no memory is left"),
+        ];
+        for (error, want) in rows {
+            let text = error.to_string(rt.alloc())?;
+            assert_eq!(rt; text.as_str(), want);
+        }
+        Ok(())
     }
 }

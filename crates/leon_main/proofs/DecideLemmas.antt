@@ -31,10 +31,10 @@ same_word asked word other first second = cc
 play_not_codes : {X : Type 0} (asked : Option Request) (names : FileNames) (word : ℕ) → asked ≡ Some (Play names) → asked ≡ Some (Codes word) → X
 play_not_codes asked names word first second = absurd (let e : Some (Play names) ≡ Some (Codes word) = sym first ∙ second in cc)
 
-play_not_none : {X : Type 0} (asked : Option Request) (names : FileNames) → asked ≡ Some (Play names) → asked ≡ None → X
+pub play_not_none : {X : Type 0} (asked : Option Request) (names : FileNames) → asked ≡ Some (Play names) → asked ≡ None → X
 play_not_none asked names first second = absurd (let e : Some (Play names) ≡ None = sym first ∙ second in cc)
 
-codes_not_none : {X : Type 0} (asked : Option Request) (word : ℕ) → asked ≡ Some (Codes word) → asked ≡ None → X
+pub codes_not_none : {X : Type 0} (asked : Option Request) (word : ℕ) → asked ≡ Some (Codes word) → asked ≡ None → X
 codes_not_none asked word first second = absurd (let e : Some (Codes word) ≡ None = sym first ∙ second in cc)
 
 -- the same for files under other names

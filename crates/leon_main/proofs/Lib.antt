@@ -4,3 +4,4 @@ pub mod CauseLemmas
 pub mod FileLemmas
 pub mod SettledLemmas
 pub mod DecideLemmas
+pub mod GivenLemmas

@@ -3,6 +3,8 @@ use Rattle.std.specs.Prelude.{ℕ, List, ◌++◌, codes}
 use Rattle.elf_image.specs.Names.{refusal_name}
 use Rattle.elf_image.specs.declared.error.ImageErr.{ImageErr}
 use Rattle.elf_image.specs.declared.error.ImageErr.TheVariants as image
+use Rattle.lf_io.specs.declared.read.ReadErr.{ReadErr}
+use Rattle.lf_io.specs.declared.read.ReadErr.TheVariants as reading
 use Rattle.lf_model.specs.Texts.{number, space, line_feed}
 use Rattle.run_texts.specs.Faults.{word_of}
 use Rattle.run_texts.specs.Keys.{row}
@@ -13,6 +15,7 @@ use Rattle.run_texts.specs.declared.error.TextErr.TheVariants as text
 use Rattle.leon_main.specs.Files.{file_word, limit_of}
 use Rattle.leon_main.specs.declared.fault.Fault.{Fault}
 use Rattle.leon_main.specs.declared.fault.Fault.TheVariants.{Usage, Unread, TooLong, NotToml, UnknownKey, WrongKind, OutOfRange, BadImage, BadScript, BadSchedule, Memory}
+use Rattle.leon_main.specs.declared.run_file.RunFile.{RunFile}
 
 abbrev pub status_of : Fault → ℕ
 status_of Usage = 2
@@ -40,7 +43,12 @@ line_of (BadScript line why) = codes "error 5 script " ++ number space line ++ w
 line_of (BadSchedule line why) = codes "error 5 schedule " ++ number space line ++ word_of why ++ codes "\n"
 line_of Memory = codes "error 7 memory\n"
 
--- the faults that the errors of the readers are
+-- the faults that the errors of the readers are: in reading a file's bytes, and in what they spell
+abbrev pub read_fault : RunFile → ReadErr → Fault
+read_fault file reading.Fault = Unread file
+read_fault file (reading.TooLong least) = TooLong file
+read_fault file reading.Memory = Memory
+
 abbrev pub configuration_fault : ConfigErr → Fault
 configuration_fault configuration.Text = NotToml
 configuration_fault configuration.Key = UnknownKey

@@ -5,3 +5,4 @@ pub mod Accepted
 pub mod Reading
 pub mod Ends
 pub mod Call
+pub mod Given

@@ -4,19 +4,19 @@ use Rattle.lf_io.specs.Count.{Rose}
 use Rattle.lf_io.specs.Held.{FileMap}
 use Rattle.lf_model.specs.declared.config.Config.{Config}
 use Rattle.lf_model.specs.declared.setup.Setup.{Setup}
-use Rattle.leon_main.specs.Accepted.{AreAcceptedBefore, IsRefused, IsFirstRefusal}
+use Rattle.leon_main.specs.Accepted.{IsWithin, AreAcceptedBefore, IsRefused, IsFirstRefusal}
 use Rattle.leon_main.specs.Files.{name_in}
 use Rattle.leon_main.specs.Words.{FileNames}
 use Rattle.leon_main.specs.declared.fault.Fault.{Fault}
 use Rattle.leon_main.specs.declared.fault.Fault.TheVariants.{Usage, Unread, Memory}
 use Rattle.leon_main.specs.declared.run_file.RunFile.{RunFile}
 
--- One file, whose bytes are told or not: a read of it failed, so that the count of its name rose; memory ran out; or its
--- bytes, where they are told, are refused.
+-- One file, whose bytes are told or not: a read of it failed, so that the count of its name rose; memory ran out, for
+-- bytes within the limit only; or its bytes, where they are told, are refused.
 abbrev pub IsFileCause : RunFile → Config → Option (List ℕ) → ℕ → ℕ → Fault → Type 0
 IsFileCause file config told before after Usage = ⊥
 IsFileCause file config told before after (Unread unread) = (unread ≡ file) × Rose before after
-IsFileCause file config told before after Memory = ⊤
+IsFileCause file config told before after Memory = IfSome told (IsWithin file)
 IsFileCause file config told before after fault = IfSome told (λ bytes. IsRefused file config bytes fault)
 
 -- a file could not be read: the count of its name rose, and the files before it, where they are told, are accepted

@@ -1,4 +1,5 @@
-ghost use Rattle.std.specs.Prelude.{◌≡◌, ◌≢◌, ◌≤◌, ◌<◌, ◌^◌, ◌⊎◌, ℕ, List, map, string_bytes, Some, IfOk, IfErr, IfSome};
+ghost use Rattle.std.specs.Prelude.{◌≡◌, ◌≢◌, ◌≤◌, ◌<◌, ◌^◌, ◌⊎◌, ℕ, List, map, string_bytes, Some, Err, IfOk, IfErr, IfSome};
+ghost use Rattle.std.specs.Process.{exit_status};
 ghost use Rattle.edac_code.specs.Code.{check_bits};
 ghost use Rattle.lf_io.specs.Count.{Rose};
 ghost use Rattle.lf_io.specs.Held.{FileMap};
@@ -6,18 +7,20 @@ ghost use Rattle.lf_io.specs.Taken.{Takes, TakesPrefix};
 ghost use Rattle.lf_model.specs.declared.setup.Event.{Event};
 ghost use Rattle.machine_play.specs.Playable.{IsPlayable};
 ghost use Rattle.leon_main.specs.Accepted.{AreParts};
-ghost use Rattle.leon_main.specs.Call.{IsOutcome, IsAnswered, IsCutOff, IsFaultless, Decides, IsSettled, status_of, text_of};
+ghost use Rattle.leon_main.specs.Call.{IsOutcome, IsAnswered, IsCutOff, IsFaultless, Tells, Decides, IsSettled, status_of, text_of};
 ghost use Rattle.leon_main.specs.Faults.{line_of};
+ghost use Rattle.leon_main.specs.Given.{AnswersGiven};
 ghost use Rattle.leon_main.specs.Reading.{IsCause};
 ghost use Rattle.leon_main.specs.Words.{FileNames, told};
 
 use crate::answer::{Answer, status_of, text_of};
 use crate::fault::Fault;
 use crate::reading;
-use crate::words::{Command, Names, command_of};
+use crate::words::{Command, Names, WordsErr, command_of};
 use lf_io::{Files, Sink};
 use lf_model::setup::Setup;
 use std::alloc::Global;
+use std::process::ExitCode;
 
 /// The setup that the files of a run spell.
 fn setup_of<F: Files>(alloc: Global, files: &mut F, names: Names) -> Result<Setup, Fault>
@@ -81,7 +84,7 @@ fn tell<K: Sink>(alloc: Global, outcome: &Result<Answer, Fault>, out: &mut K) ->
 
 /// Writes that there was no memory.
 #[tactic(auto, unfolding(crate::specs::Faults::line_of))]
-pub fn tell_memory<K: Sink>(out: &mut K) -> u8
+fn tell_memory<K: Sink>(out: &mut K) -> u8
     ensures memory { result ≡ 7 → Takes (K.taken out.old) (K.taken out.new) (line_of Fault.Memory) }
     ensures cut { result ≡ 8 → Rose (K.faults out.old) (K.faults out.new) }
     ensures part { result ≡ 8 → TakesPrefix (K.taken out.old) (K.taken out.new) (line_of Fault.Memory) }
@@ -130,4 +133,31 @@ pub fn plain_call<F: Files, K: Sink>(
 {
     let outcome = outcome_of(alloc, words, files);
     tell(alloc, &outcome, out)
+}
+
+/// Does what the words of a call say, as far as they are known, and answers the program's exit code.
+///
+/// Words that are not text are no words of the program.
+pub fn exit_code_of<F: Files, K: Sink>(
+    alloc: Global,
+    words: Result<Vec<String>, WordsErr>,
+    files: &mut F,
+    out: &mut K,
+) -> ExitCode
+    // The code is the status that the words have as a call; without memory for them, that of want of memory.
+    ensures answered { AnswersGiven words (F.held files.old) (F.faults files.old) (F.faults files.new)
+        (K.taken out.old) (K.taken out.new) (exit_status result) }
+
+    // Words that are not text are answered by `error 2 usage`, unless memory or the sink fails.
+    ensures not_text { words ≡ Err WordsErr.NotText
+        → Tells (exit_status result) (K.taken out.old) (K.taken out.new) 2 (line_of Fault.Usage) }
+
+    // 8 is a fault of the sink.
+    ensures fault { exit_status result ≡ 8 → Rose (K.faults out.old) (K.faults out.new) }
+{
+    match words {
+        Ok(words) => ExitCode::from(plain_call(alloc, &words, files, out)),
+        Err(WordsErr::NotText) => ExitCode::from(plain_call(alloc, &[], files, out)),
+        Err(WordsErr::Memory) => ExitCode::from(tell_memory(out)),
+    }
 }

@@ -1,10 +1,11 @@
 ghost use Rattle.std.specs.Prelude.{◌≡◌, ◌++◌, codes, IfOk};
 ghost use Rattle.lf_model.specs.Texts.{number, space};
 ghost use Rattle.run_texts.specs.Faults.{word_of};
-ghost use Rattle.leon_main.specs.Faults.{script_fault, schedule_fault};
+ghost use Rattle.leon_main.specs.Faults.{read_fault, script_fault, schedule_fault};
 
 use crate::run_file::RunFile;
 use elf_image::{ImageErr, refusal_name};
+use lf_io::ReadErr;
 use report_text::fields::{LINE_FEED, SPACE, put, put_number};
 use run_texts::{ConfigErr, Key, TextErr, TextWhy};
 use std::alloc::{AllocError, Global};
@@ -125,6 +126,17 @@ fn number_line(alloc: Global, head: &[u8], word: &[u8], n: u64) -> Result<Vec<u8
 
 impl Fault {
     ghost use Rattle.leon_main.specs.Faults.{status_of, line_of};
+
+    /// The fault that an error in reading a file is.
+    pub fn of_reading(file: RunFile, error: ReadErr) -> Fault
+        ensures { result ≡ read_fault file error }
+    {
+        match error {
+            ReadErr::Fault => Fault::Unread(file),
+            ReadErr::TooLong(_) => Fault::TooLong(file),
+            ReadErr::Memory => Fault::Memory,
+        }
+    }
 
     /// The fault that an error of a script is.
     pub fn of_script(error: TextErr) -> Fault

@@ -10,27 +10,21 @@ mod run_file;
 mod tests;
 mod words;
 
+use crate::words::WordsErr;
 use lf_io::{RealFiles, RealSink};
+use std::env;
 use std::process::ExitCode;
-use std::{env, io};
 
-/// The words of the call, the program's name first.
-fn words_of(rt: &HostRuntime) -> io::Result<Vec<String>> {
-    let words = env::args(rt)?;
+// The words of the call, the program's name first. Which they are is the system's to say, and no clause can.
+fn words_of(rt: &HostRuntime) -> Result<Vec<String>, WordsErr> {
+    let words = env::args(rt).map_err(WordsErr::of_system)?;
     Ok(words.collect(rt.alloc())?)
 }
 
+// The runtime has no value that a clause could name. What is done with what it gives, `exit_code_of` says.
 fn main(rt: HostRuntime) -> ExitCode {
     let alloc = rt.alloc();
     let mut files = RealFiles::new(alloc, &rt);
     let mut out = RealSink::new(&rt);
-    let status = match words_of(&rt) {
-        Ok(words) => call::plain_call(alloc, &words, &mut files, &mut out),
-        // Words that are not text are no words of the program.
-        Err(error) if error.kind() == io::ErrorKind::InvalidData => {
-            call::plain_call(alloc, &[], &mut files, &mut out)
-        }
-        Err(_) => call::tell_memory(&mut out),
-    };
-    ExitCode::from(status)
+    call::exit_code_of(alloc, words_of(&rt), &mut files, &mut out)
 }

@@ -11,7 +11,7 @@ ghost use Rattle.leon_main.specs.Reading.{IsFileCause};
 
 use crate::fault::Fault;
 use crate::run_file::RunFile;
-use lf_io::{Files, ReadErr};
+use lf_io::Files;
 use lf_model::config::Config;
 use lf_model::flip::Flips;
 use lf_model::image::Image;
@@ -35,9 +35,7 @@ fn bytes_of<F: Files>(
 {
     match lf_io::read_whole(alloc, files, name, file.limit()) {
         Ok(bytes) => Ok(bytes),
-        Err(ReadErr::Fault) => Err(Fault::Unread(file)),
-        Err(ReadErr::TooLong(_)) => Err(Fault::TooLong(file)),
-        Err(ReadErr::Memory) => Err(Fault::Memory),
+        Err(error) => Err(Fault::of_reading(file, error)),
     }
 }
 

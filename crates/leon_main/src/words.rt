@@ -2,6 +2,47 @@ ghost use Rattle.std.specs.Prelude.{◌≡◌, map, option_map, string_bytes, co
 ghost use Rattle.run_texts.specs.Text.{numeral, hexadecimal};
 ghost use Rattle.leon_main.specs.Words.{is_text, is_dashed, undashed, play_request, codes_request, request_of, told, asked};
 
+use std::alloc::AllocError;
+use std::io;
+use std::io::ErrorKind;
+
+/// Why the words of a call are not known.
+#[derive(Clone, Copy, Debug, PartialEq, Eq)]
+pub enum WordsErr {
+    /// A word is no text in UTF-8.
+    NotText,
+    /// There is no memory left.
+    Memory,
+}
+
+impl WordsErr {
+    ghost use Rattle.std.specs.Prelude.{◌≡◌, ◌≢◌};
+    ghost use Rattle.std.specs.IoError.{error_kind};
+
+    /// What an error of the system says of the words.
+    pub fn of_system(error: io::Error) -> WordsErr
+        ensures not_text { error_kind error ≡ ErrorKind.InvalidData → result ≡ WordsErr.NotText }
+        ensures memory { error_kind error ≢ ErrorKind.InvalidData → result ≡ WordsErr.Memory }
+    {
+        if error.kind() == ErrorKind::InvalidData {
+            WordsErr::NotText
+        } else {
+            WordsErr::Memory
+        }
+    }
+}
+
+impl From<AllocError> for WordsErr {
+    ghost use Rattle.std.specs.Prelude.{◌≡◌};
+    ghost use Rattle.leon_main.specs.declared.words.WordsErr.TheVariants.{Memory};
+
+    ghost from_gives = { λ _ e. e ≡ Memory };
+
+    fn from(_error: AllocError) -> WordsErr {
+        WordsErr::Memory
+    }
+}
+
 /// What the words of a call ask for.
 #[derive(Clone, Copy)]
 pub enum Command<'a> {

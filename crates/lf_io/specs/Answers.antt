@@ -14,22 +14,21 @@ pub record IsTooLong (told : Option (List ℕ)) (limit least : ℕ) : Type 0 whe
   pub one_more : least ≡ limit + 1
   pub longer : IfSome told (λ file. limit < length file)
 
--- each error comes only with its cause: a fault with a count that rose, from `before` to `after`
-abbrev pub HasCause : Option (List ℕ) → ℕ → ℕ → ℕ → ReadErr → Type 0
-HasCause told limit before after Fault = Rose before after
-HasCause told limit before after (TooLong least) = IsTooLong told limit least
-HasCause told limit before after Memory = Unit {0}
-
--- one read gives no length: it fails or lacks memory
-abbrev pub HasReadCause : ℕ → ℕ → ReadErr → Type 0
-HasReadCause before after Fault = Rose before after
-HasReadCause before after (TooLong least) = ⊥
-HasReadCause before after Memory = Unit {0}
-
--- the bytes are the first ones of the file
-abbrev pub IsStart : Option (List ℕ) → List ℕ → Type 0
-IsStart told bytes = IfSome told (λ file. bytes ≡ take (length bytes) file)
+-- the file has at least so many bytes
+abbrev pub ReachesTo : Option (List ℕ) → ℕ → Type 0
+ReachesTo told place = IfSome told (λ file. place ≤ length file)
 
 -- the file has no byte from a place on
 abbrev pub EndsBy : Option (List ℕ) → ℕ → Type 0
 EndsBy told place = IfSome told (λ file. length file ≤ place)
+
+-- each error comes only with its cause: a fault with a count that rose, from `before` to `after`; and want of memory only
+-- for a file within the limit, so that a longer one never answers it
+abbrev pub HasCause : Option (List ℕ) → ℕ → ℕ → ℕ → ReadErr → Type 0
+HasCause told limit before after Fault = Rose before after
+HasCause told limit before after (TooLong least) = IsTooLong told limit least
+HasCause told limit before after Memory = EndsBy told limit
+
+-- the bytes are the first ones of the file
+abbrev pub IsStart : Option (List ℕ) → List ℕ → Type 0
+IsStart told bytes = IfSome told (λ file. bytes ≡ take (length bytes) file)

@@ -1,11 +1,12 @@
-ghost use Rattle.std.specs.Prelude.{◌≡◌, ℕ, ◌+◌, ◌^◌, ◌<◌, ◌≤◌, List, length, vec_len, Ok, true, false, IfOk, IfErr, OnOk};
+ghost use Rattle.std.specs.Prelude.{◌≡◌, ◌≢◌, ℕ, ◌+◌, ◌^◌, ◌<◌, ◌≤◌, List, length, vec_len, Ok, IfOk, IfErr, OnOk, OnErr};
+ghost use Rattle.lf_io.specs.Count.{Rose};
 ghost use Rattle.lf_io.specs.Held.{content};
-ghost use Rattle.lf_io.specs.Answers.{IsWhole, HasCause, HasReadCause, IsStart, EndsBy};
+ghost use Rattle.lf_io.specs.Answers.{IsWhole, HasCause, IsStart, ReachesTo, EndsBy};
 ghost use Rattle.lf_io.specs.declared.read.ReadErr.TheVariants.{Fault, Memory};
 
 use crate::failed::Failed;
 use crate::files::Files;
-use std::alloc::{AllocError, Global};
+use std::alloc::Global;
 use std::error::Error;
 use std::fmt;
 
@@ -19,7 +20,7 @@ pub enum ReadErr {
     Fault,
     /// The file has at least this many bytes, one more than the limit.
     TooLong(u64),
-    /// There was no memory left.
+    /// There was no memory left for the bytes, of which there are not more than the limit.
     Memory,
 }
 
@@ -43,44 +44,49 @@ impl From<Failed> for ReadErr {
     }
 }
 
-impl From<AllocError> for ReadErr {
-    ghost from_gives = { λ _ e. e ≡ Memory };
-
-    fn from(_error: AllocError) -> ReadErr {
-        ReadErr::Memory
-    }
-}
-
-// Room for the bytes of one read.
-fn room_for(alloc: Global, size: usize) -> Result<Vec<u8>, AllocError>
-    ensures { IfOk result (λ piece. vec_len piece ≡ size) }
-{
-    vec![in alloc; 0; size]
-}
-
-// Adds what one read into `piece` gives of the bytes that follow, and answers whether there were any.
+// Reads bytes from a place on into `piece`, and answers how many came. They are added to `bytes` where these end at that
+// place and memory is left; else `bytes` stays as it is.
 fn read_more<F: Files>(
     files: &mut F,
     name: &str,
+    place: usize,
     piece: &mut [u8],
     bytes: &mut Vec<u8>,
-) -> Result<bool, ReadErr>
-    requires { 0 < length piece.old }
+) -> Result<usize, Failed>
+    requires room { 0 < length piece.old }
+    requires place { place < 2 ^ 63 }
+    requires reaches { vec_len bytes.old ≤ place }
     ensures start { OnOk result (IsStart (content (F.held files.old) name.now) bytes.old.items → IsStart (content (F.held files.old) name.now) bytes.new.items) }
-    ensures grows { result ≡ Ok true → vec_len bytes.old < vec_len bytes.new }
-    ensures within { OnOk result (vec_len bytes.new ≤ vec_len bytes.old + length piece.old) }
-    ensures same { result ≡ Ok false → bytes.new.items ≡ bytes.old.items }
-    ensures end { result ≡ Ok false → EndsBy (content (F.held files.old) name.now) (vec_len bytes.old) }
-    ensures cause { IfErr result (HasReadCause (F.faults files.old name.now) (F.faults files.new name.now)) }
+    ensures within { IfOk result (λ n. n ≤ length piece.old) }
+    ensures reaches { IfOk result (λ n. vec_len bytes.new ≤ place + n) }
+    ensures had { IfOk result (λ n. 0 < n → ReachesTo (content (F.held files.old) name.now) (place + n)) }
+    ensures end { result ≡ Ok 0 → EndsBy (content (F.held files.old) name.now) place }
+    ensures cause { OnErr result (Rose (F.faults files.old name.now) (F.faults files.new name.now)) }
     ensures kept { F.held files.new ≡ F.held files.old }
     ensures never_falls { (other : List ℕ) → F.faults files.old other ≤ F.faults files.new other }
 {
-    let n = files.read(name, bytes.len() as u64, piece)?;
-    bytes.extend_from_slice(&piece[..n])?;
-    Ok(n > 0)
+    let n = files.read(name, place as u64, piece)?;
+    if bytes.len() == place {
+        let _ = bytes.extend_from_slice(&piece[..n]);
+    }
+    Ok(n)
+}
+
+// The bytes of a file of this length, where memory was left for all of them.
+fn all_of(bytes: Vec<u8>, length: usize) -> Result<Vec<u8>, ReadErr>
+    ensures all { IfOk result (λ all. (all ≡ bytes) × (vec_len bytes ≡ length)) }
+    ensures memory { IfErr result (λ err. (err ≡ Memory) × (vec_len bytes ≢ length)) }
+{
+    if bytes.len() == length {
+        Ok(bytes)
+    } else {
+        Err(ReadErr::Memory)
+    }
 }
 
 /// Reads the whole file `name`, of at most `limit` bytes.
+///
+/// Where memory runs out the file is read on all the same, so that a file that is too long never answers `Memory`.
 pub fn read_whole<F: Files>(
     alloc: Global,
     files: &mut F,
@@ -95,17 +101,17 @@ pub fn read_whole<F: Files>(
     ensures kept { F.held files.new ≡ F.held files.old }
     ensures never_falls { (other : List ℕ) → F.faults files.old other ≤ F.faults files.new other }
 {
-    let mut piece = room_for(alloc, PIECE)?;
-    let mut bytes = Vec::new(alloc);
     let most = limit as usize;
-    loop {
-        let room = piece.len().min(most + 1 - bytes.len());
-        let more = read_more(files, name, &mut piece[..room], &mut bytes)?;
-        if !more {
-            return Ok(bytes);
+    let mut piece = [0; PIECE];
+    let mut bytes = Vec::new(alloc);
+    let mut place = 0;
+    while place <= most {
+        let room = PIECE.min(most + 1 - place);
+        let n = read_more(files, name, place, &mut piece[..room], &mut bytes)?;
+        if n == 0 {
+            return all_of(bytes, place);
         }
-        if bytes.len() > most {
-            return Err(ReadErr::TooLong(limit + 1));
-        }
+        place += n;
     }
+    Err(ReadErr::TooLong(limit + 1))
 }

@@ -1,4 +1,4 @@
-ghost use Rattle.std.specs.Prelude.{◌≡◌, ℕ, ◌≤◌, length, None, IfOk};
+ghost use Rattle.std.specs.Prelude.{◌≡◌, ℕ, ◌+◌, ◌^◌, ◌<◌, ◌≤◌, length, None, IsTrue, IfOk};
 
 use crate::failed::Failed;
 use crate::files::Files;
@@ -11,19 +11,53 @@ use std::marker::Model;
 use std::rt::Files as FileSystem;
 
 /// The files of the system, of which it tells nothing. Each failure of the system is a fault.
+///
+/// The file that was read last stays open. It is moved only for a read at another place than the one where it is, so
+/// that what cannot move, as a pipe, is read once from its start to its end.
 #[derive(Drop)]
 pub struct RealFiles<'a, R: FileSystem> {
     rt: &'a R,
     alloc: Global,
-    kept: Option<KeptFile<R::File>>,
+    kept: Option<OpenedFile<R::File>>,
     faults: u64,
 }
 
-// The file that was read last, which stays open.
+// A file that is open.
 #[derive(Drop)]
-struct KeptFile<F> {
-    name: String,
+struct OpenedFile<F> {
+    // The name that it was opened by, where there was memory for it.
+    name: Option<String>,
     file: F,
+    // The place of the next byte that it gives.
+    place: u64,
+}
+
+impl<F: Read + Seek> OpenedFile<F> {
+    ghost use Rattle.lf_io.specs.Opened.{IsOpenedBy};
+
+    fn is_opened_by(&self, name: &str) -> bool
+        ensures { IsTrue result → IsOpenedBy self.now.name name.now }
+    {
+        match &self.name {
+            Some(kept) => kept.as_str() == name,
+            None => false,
+        }
+    }
+
+    // After an error its place is not known, and it is not to be read again.
+    fn read_at(&mut self, at: u64, buf: &mut [u8]) -> io::Result<usize>
+        requires { at < 2 ^ 63 }
+        ensures within { IfOk result (λ n. n ≤ length buf.new) }
+        ensures place { IfOk result (λ n. self.new.place ≡ at + n) }
+        ensures name { self.new.name ≡ self.old.name }
+    {
+        if self.place != at {
+            self.file.seek(SeekFrom::Start(at))?;
+        }
+        let n = self.file.read(buf)?;
+        self.place = at + n as u64;
+        Ok(n)
+    }
 }
 
 impl<'a, R: FileSystem> Model for RealFiles<'a, R> {
@@ -35,6 +69,8 @@ impl<'a, R: FileSystem> Model for RealFiles<'a, R> {
 }
 
 impl<'a, R: FileSystem> RealFiles<'a, R> {
+    ghost use Rattle.lf_io.specs.Opened.{IsOpenedBy};
+
     /// No fault is counted yet.
     pub fn new(alloc: Global, rt: &'a R) -> Self
         ensures { result ≡ 0 }
@@ -47,32 +83,38 @@ impl<'a, R: FileSystem> RealFiles<'a, R> {
         }
     }
 
-    fn open(&mut self, name: &str) -> io::Result<R::File>
-        ensures { self.new ≡ self.old }
+    // That the system opens the file of this name, no clause can say.
+    fn open_anew(&self, name: &str) -> io::Result<OpenedFile<R::File>>
+        ensures opened_by { IfOk result (λ opened. IsOpenedBy opened.name name.now) }
+        ensures first { IfOk result (λ opened. opened.place ≡ 0) }
+    {
+        let file = File::open(self.rt, name)?;
+        Ok(OpenedFile {
+            name: String::from_str(self.alloc, name).ok(),
+            file,
+            place: 0,
+        })
+    }
+
+    fn open(&mut self, name: &str) -> io::Result<OpenedFile<R::File>>
+        ensures opened_by { IfOk result (λ opened. IsOpenedBy opened.name name.now) }
+        ensures same { self.new ≡ self.old }
     {
         match self.kept.take() {
-            Some(KeptFile { name: kept, file }) if kept.as_str() == name => Ok(file),
-            _ => File::open(self.rt, name),
+            Some(kept) if kept.is_opened_by(name) => Ok(kept),
+            _ => self.open_anew(name),
         }
     }
 
-    // Without memory for the name the file is closed, and the next read opens it again.
-    fn keep(&mut self, name: &str, file: R::File)
-        ensures { self.new ≡ self.old }
-    {
-        if let Ok(name) = String::from_str(self.alloc, name) {
-            self.kept = Some(KeptFile { name, file });
-        }
-    }
-
+    // After an error no file stays open.
     fn read_at(&mut self, name: &str, at: u64, buf: &mut [u8]) -> io::Result<usize>
+        requires { at < 2 ^ 63 }
         ensures within { IfOk result (λ n. n ≤ length buf.new) }
         ensures same { self.new ≡ self.old }
     {
-        let mut file = self.open(name)?;
-        file.seek(SeekFrom::Start(at))?;
-        let n = file.read(buf)?;
-        self.keep(name, file);
+        let mut opened = self.open(name)?;
+        let n = opened.read_at(at, buf)?;
+        self.kept = Some(opened);
         Ok(n)
     }
 }
@@ -82,6 +124,7 @@ impl<'a, R: FileSystem> Files for RealFiles<'a, R> {
 
     ghost faults = { λ it _. it };
 
+    // Which bytes come, and how many, is the system's to say: no clause can, beyond the trait's.
     fn read(&mut self, name: &str, at: u64, buf: &mut [u8]) -> Result<usize, Failed> {
         match self.read_at(name, at, buf) {
             Ok(n) => Ok(n),
@@ -122,6 +165,7 @@ impl<'a, P: Print> Sink for RealSink<'a, P> {
 
     ghost faults = { λ it. it };
 
+    // How many bytes go is the system's to say: no clause can, beyond the trait's.
     fn write(&mut self, piece: &[u8]) -> Result<usize, Failed> {
         if piece.is_empty() {
             return Ok(0);
@@ -139,11 +183,17 @@ impl<'a, P: Print> Sink for RealSink<'a, P> {
 #[cfg(test)]
 mod tests {
     use super::*;
+    use crate::read::read_whole;
     use std::fmt::Display;
     use std::fs;
+    use std::io::Write;
+    use std::os::fd::AsRawFd;
     use std::test::Fail;
 
     const NAME: &str = "lf_io_real_files.txt";
+
+    // A name of the same length.
+    const OTHER: &str = "lf_io_more_files.txt";
 
     #[test]
     fn reads_real_files(rt: HostRuntime) -> Result<(), Fail> {
@@ -161,6 +211,48 @@ mod tests {
         assert_eq!(rt; files.read(NAME, 0, &mut buf), Ok(2));
         fs::remove_file(&rt, NAME)?;
         Ok(())
+    }
+
+    #[test]
+    fn reads_each_file_by_its_name(rt: HostRuntime) -> Result<(), Fail> {
+        fs::write(&rt, NAME, "abc")?;
+        fs::write(&rt, OTHER, "xyz")?;
+        let mut files = RealFiles::new(rt.alloc(), &rt);
+        for (name, text) in [(NAME, "abc"), (OTHER, "xyz"), (NAME, "abc")] {
+            let bytes = read_whole(rt.alloc(), &mut files, name, 3)?;
+            assert!(rt; bytes.as_slice() == text.as_bytes(), "{name}");
+        }
+        fs::remove_file(&rt, NAME)?;
+        fs::remove_file(&rt, OTHER)?;
+        Ok(())
+    }
+
+    // A pipe is read from its start to its end, in two pieces, and gives nothing twice.
+    #[test]
+    fn reads_a_pipe_once(rt: HostRuntime) -> Result<(), Fail> {
+        let (reader, mut writer) = io::pipe(&rt)?;
+        let name = format!(in rt.alloc(); "/dev/fd/{}", reader.as_raw_fd())?;
+        let mut files = RealFiles::new(rt.alloc(), &rt);
+        let mut buf = [b'-'; 2];
+        writer.write_all(b"abc")?;
+        for (at, text) in [(0, "ab"), (2, "c")] {
+            let n = files.read(&name, at, &mut buf);
+            assert_eq!(rt; n, Ok(text.len()), "at {at}");
+            assert!(rt; &buf[..text.len()] == text.as_bytes(), "at {at}");
+        }
+        drop(writer);
+        assert_eq!(rt; files.read(&name, 3, &mut buf), Ok(0));
+        assert_eq!(rt; files.read(&name, 0, &mut buf), Err(Failed));
+        assert_eq!(rt; files.faults, 1);
+        Ok(())
+    }
+
+    // A folder opens, and cannot be read.
+    #[test]
+    fn folders_are_faults(rt: HostRuntime) {
+        let mut files = RealFiles::new(rt.alloc(), &rt);
+        assert_eq!(rt; files.read(".", 0, &mut [0; 2]), Err(Failed));
+        assert_eq!(rt; files.faults, 1);
     }
 
     // A standard output that fails.

@@ -1,5 +1,7 @@
 use crate::keys::Key;
 use std::alloc::AllocError;
+use std::error::Error;
+use std::fmt;
 
 /// Why a configuration was not read. Where several faults hold, the first in this order is told, and of those at keys
 /// the first of the first key.
@@ -17,6 +19,20 @@ pub enum ConfigErr {
     Memory,
 }
 
+impl fmt::Display for ConfigErr {
+    fn fmt<W: fmt::Write>(&self, f: &mut fmt::Formatter<W>) -> fmt::Result {
+        match self {
+            ConfigErr::Text => f.write_str("the text is no TOML document"),
+            ConfigErr::Key => f.write_str("there is an unknown key"),
+            ConfigErr::Kind(key) => write!(f, "the value of {} is of another kind", key.name()),
+            ConfigErr::Range(key) => write!(f, "the value of {} is out of its range", key.name()),
+            ConfigErr::Memory => f.write_str("no memory is left"),
+        }
+    }
+}
+
+impl Error for ConfigErr {}
+
 impl From<AllocError> for ConfigErr {
     ghost use Rattle.std.specs.Prelude.{◌≡◌};
     ghost use Rattle.run_texts.specs.declared.config_error.ConfigErr.TheVariants.{Memory};
@@ -25,5 +41,33 @@ impl From<AllocError> for ConfigErr {
 
     fn from(_error: AllocError) -> ConfigErr {
         ConfigErr::Memory
+    }
+}
+
+#[cfg(test)]
+mod tests {
+    use super::*;
+    use std::test::Fail;
+
+    #[test]
+    fn prints_errors(rt: HostRuntime) -> Result<(), Fail> {
+        let rows = [
+            (ConfigErr::Text, "the text is no TOML document"),
+            (ConfigErr::Key, "there is an unknown key"),
+            (
+                ConfigErr::Kind(Key::Ram),
+                "the value of machine.ram is of another kind",
+            ),
+            (
+                ConfigErr::Range(Key::LoadSets),
+                "the value of dcache.sets is out of its range",
+            ),
+            (ConfigErr::Memory, "no memory is left"),
+        ];
+        for (error, want) in rows {
+            let text = error.to_string(rt.alloc())?;
+            assert_eq!(rt; text.as_str(), want);
+        }
+        Ok(())
     }
 }

@@ -2,6 +2,8 @@ ghost use Rattle.std.specs.Prelude.{◌≡◌};
 ghost use Rattle.run_texts.specs.Faults.{word_of};
 
 use std::alloc::AllocError;
+use std::error::Error;
+use std::fmt;
 
 /// What is wrong with a line of a text, the fault that is told first at the head.
 #[derive(Clone, Copy, Debug, PartialEq, Eq)]
@@ -33,6 +35,18 @@ impl TextWhy {
     }
 }
 
+impl fmt::Display for TextWhy {
+    fn fmt<W: fmt::Write>(&self, f: &mut fmt::Formatter<W>) -> fmt::Result {
+        f.write_str(match self {
+            TextWhy::Word => "the first field is not known",
+            TextWhy::Many => "there are too many flips",
+            TextWhy::Count => "there are too few or too many fields",
+            TextWhy::Number => "a field is not of its form",
+            TextWhy::Range => "a value is out of its range",
+        })
+    }
+}
+
 /// Why a text was not read.
 #[derive(Clone, Copy, Debug, PartialEq, Eq)]
 pub enum TextErr {
@@ -47,6 +61,17 @@ pub enum TextErr {
     Memory,
 }
 
+impl fmt::Display for TextErr {
+    fn fmt<W: fmt::Write>(&self, f: &mut fmt::Formatter<W>) -> fmt::Result {
+        match self {
+            TextErr::At { line, why } => write!(f, "line {line}: {why}"),
+            TextErr::Memory => f.write_str("no memory is left"),
+        }
+    }
+}
+
+impl Error for TextErr {}
+
 impl From<AllocError> for TextErr {
     ghost use Rattle.std.specs.Prelude.{◌≡◌};
     ghost use Rattle.run_texts.specs.declared.error.TextErr.TheVariants.{Memory};
@@ -55,5 +80,32 @@ impl From<AllocError> for TextErr {
 
     fn from(_error: AllocError) -> TextErr {
         TextErr::Memory
+    }
+}
+
+#[cfg(test)]
+mod tests {
+    use super::*;
+    use std::test::Fail;
+
+    #[test]
+    fn prints_errors(rt: HostRuntime) -> Result<(), Fail> {
+        let rows = [
+            (TextWhy::Word, "line 7: the first field is not known"),
+            (TextWhy::Many, "line 7: there are too many flips"),
+            (
+                TextWhy::Count,
+                "line 7: there are too few or too many fields",
+            ),
+            (TextWhy::Number, "line 7: a field is not of its form"),
+            (TextWhy::Range, "line 7: a value is out of its range"),
+        ];
+        for (why, want) in rows {
+            let text = TextErr::At { line: 7, why }.to_string(rt.alloc())?;
+            assert_eq!(rt; text.as_str(), want);
+        }
+        let text = TextErr::Memory.to_string(rt.alloc())?;
+        assert_eq!(rt; text.as_str(), "no memory is left");
+        Ok(())
     }
 }
