@@ -1,5 +1,5 @@
-//! Tests of `elf_image` and `report_text` through their public calls: ELF files with what they spell or why they are
-//! refused, and traces with the text of their reports.
+//! Tests of `elf_image` and `report_text` through their public calls: the file of an image, and the reports of traces.
+//! How files are read and refused is in the folder cases/.
 #![tactic(auto)]
 
 #[cfg(test)]

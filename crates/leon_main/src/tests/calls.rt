@@ -12,11 +12,7 @@ static CALLS: [(&str, u8, &str); 13] = [
     ("leon3ft codes 80000000", 0, "79\n"),
     ("leon3ft codes 0", 2, "error 2 usage\n"),
     ("leon3ft run image empty empty", 2, "error 2 usage\n"),
-    (
-        "leon3ft play image empty empty",
-        2,
-        "error 2 usage\n",
-    ),
+    ("leon3ft play image empty empty", 2, "error 2 usage\n"),
     (
         "leon3ft play short empty empty empty",
         4,
