@@ -10,8 +10,6 @@ mod record;
 mod replace;
 mod stop;
 mod strike;
-#[cfg(test)]
-mod tests;
 mod transfer;
 
 pub use bus::Bus;

@@ -17,6 +17,3 @@ pub use error::ImageErr;
 pub use reader::read_image;
 pub use refusal::{Refusal, refusal_name};
 pub use writer::write_image;
-
-#[cfg(test)]
-mod tests;

@@ -2,11 +2,8 @@ use crate::call::plain_call;
 use lf_io::{MemFiles, MemSink};
 use std::alloc::{AllocError, Global};
 
-mod accesses;
-mod answers;
-mod integer;
+mod calls;
 mod runs;
-mod windows;
 
 /// A call that runs the image of a test, with a configuration, a script and a schedule.
 const PLAY: &str = "leon3ft play image configuration script schedule";

@@ -18,8 +18,6 @@ mod record;
 mod results;
 mod run;
 mod step;
-#[cfg(test)]
-mod tests;
 mod turn;
 
 pub use run::play;

@@ -4,8 +4,6 @@
 mod cores;
 pub mod fields;
 mod outcome;
-#[cfg(test)]
-mod tests;
 mod transfers;
 
 ghost use Rattle.std.specs.Prelude.{◌≡◌, ◌++◌, IfOk, OnOk, codes};

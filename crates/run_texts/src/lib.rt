@@ -32,8 +32,6 @@ mod lines;
 mod numbers;
 mod schedule;
 mod script;
-#[cfg(test)]
-mod tests;
 mod values;
 
 pub use config::read_config;

@@ -15,8 +15,6 @@ mod program_counter;
 mod refuse;
 mod retire;
 mod state_register;
-#[cfg(test)]
-mod tests;
 mod trap;
 mod windows;
 mod words;

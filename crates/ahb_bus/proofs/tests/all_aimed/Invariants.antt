@@ -1,8 +1,0 @@
-use Rattle.std.proofs.Common.{take}
-use Rattle.std.specs.Prelude.{All}
-use Rattle.ahb_bus.specs.BusState.{AimsInRam}
-use Rattle.ahb_bus.specs.declared.tests.TheConstants.{RAM}
-use Rattle.ahb_bus.proofs.tests.all_aimed.Given as goal
-
-abbrev pub invariant-loop-flip : goal.invariant-loop-flip
-invariant-loop-flip l = All (AimsInRam RAM) (take l.flip-index l.flips)
