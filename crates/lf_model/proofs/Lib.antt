@@ -5,3 +5,4 @@ pub mod SameAccount
 pub mod CourseLemmas
 pub mod ReplayLemmas
 pub mod TouchLemmas
+pub mod RecordsCompose
