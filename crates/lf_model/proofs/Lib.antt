@@ -6,3 +6,7 @@ pub mod CourseLemmas
 pub mod ReplayLemmas
 pub mod TouchLemmas
 pub mod RecordsCompose
+pub mod CheckLemmas
+pub mod LineLemmas
+pub mod HitLemmas
+pub mod ResidenceLaw

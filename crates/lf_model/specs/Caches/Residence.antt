@@ -53,13 +53,18 @@ is_in_set addr cache i = list_any (λ j. j == i) (set_of addr cache)
 abbrev pub check_drops : ℕ → Cache → ℕ → Bool
 check_drops addr cache i = is_in_set addr cache i && has_struck_tag (slot_at i cache)
 
--- after that check the line of the address is present in slot i
+-- the cache after that check
+abbrev pub after_check : ℕ → Cache → Cache
+after_check addr cache = (checked addr cache).cache
+
+-- in it, the line of the address is present in slot i
 abbrev pub is_match : ℕ → Cache → ℕ → Bool
-is_match addr cache i = option_map_or (λ j. j == i) (matching addr (checked addr cache).cache) false
+is_match addr cache i = option_map_or (λ j. j == i) (matching addr (after_check addr cache)) false
 
 -- a look-up of so many bytes drops it for a struck byte
 abbrev pub look_drops : ℕ → ℕ → Cache → ℕ → Bool
-look_drops addr len cache i = is_match addr cache i && has_wanted_words addr len (slot_at i cache) && has_struck_byte addr len (slot_at i cache)
+look_drops addr len cache i = is_match addr cache i
+    && (has_wanted_words addr len (slot_at i (after_check addr cache)) && has_struck_byte addr len (slot_at i (after_check addr cache)))
 
 -- an act drops the line of slot i
 abbrev pub drops : Cache → ℕ → Act → Bool
@@ -109,6 +114,7 @@ is_hit_in i (Miss why) = false
 
 -- a shape whose sets tell lines of one tag apart
 pub record IsShape (shape : Shape) : Type 0 where
+  pub ways : 1 ≤ shape.ways
   pub sets : 1 ≤ shape.sets
   pub by_eight : shape.sets % 8 ≡ 0
 
