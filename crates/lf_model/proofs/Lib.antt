@@ -1,2 +1,12 @@
 pub mod EachLemmas
 pub mod SplitLemmas
+pub mod SameNames
+pub mod SameAccount
+pub mod CourseLemmas
+pub mod ReplayLemmas
+pub mod TouchLemmas
+pub mod RecordsCompose
+pub mod CheckLemmas
+pub mod LineLemmas
+pub mod HitLemmas
+pub mod ResidenceLaw

@@ -14,10 +14,12 @@ pub mod flip;
 pub mod image;
 pub mod instruction;
 pub mod listed;
+pub mod place;
 pub mod record;
 pub mod setup;
 pub mod step;
 #[cfg(test)]
 mod tests;
+pub mod touch;
 pub mod trace;
 pub mod trap;
