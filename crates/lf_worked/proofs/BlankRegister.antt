@@ -1,0 +1,9 @@
+-- A register with two turned bits that is never read is told without a value.
+use Rattle.std.specs.Prelude.{◌≡◌, refl}
+use Rattle.lf_model.specs.Report.{report}
+use Rattle.lf_worked.specs.Machine.{machine}
+use Rattle.lf_worked.specs.BlankRegister.{blank_register_trace, blank_register_text}
+
+blank_register_report : report blank_register_trace ≡ blank_register_text
+unfolding machine blank_register_trace blank_register_text
+blank_register_report = refl

@@ -1,0 +1,9 @@
+-- Two struck tag bytes of one way drop it once; the third flip is declined.
+use Rattle.std.specs.Prelude.{◌≡◌, refl}
+use Rattle.lf_model.specs.Report.{report}
+use Rattle.lf_worked.specs.Machine.{machine}
+use Rattle.lf_worked.specs.FetchAfterStruckTag.{fetch_after_struck_tag_trace, fetch_after_struck_tag_text}
+
+fetch_after_struck_tag_report : report fetch_after_struck_tag_trace ≡ fetch_after_struck_tag_text
+unfolding machine fetch_after_struck_tag_trace fetch_after_struck_tag_text
+fetch_after_struck_tag_report = refl

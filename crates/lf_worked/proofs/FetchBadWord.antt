@@ -1,0 +1,9 @@
+-- The first instruction has two turned bits: the fetch stops the core by 01.
+use Rattle.std.specs.Prelude.{◌≡◌, refl}
+use Rattle.lf_model.specs.Report.{report}
+use Rattle.lf_worked.specs.Machine.{machine}
+use Rattle.lf_worked.specs.FetchBadWord.{fetch_bad_word_trace, fetch_bad_word_text}
+
+fetch_bad_word_report : report fetch_bad_word_trace ≡ fetch_bad_word_text
+unfolding machine fetch_bad_word_trace fetch_bad_word_text
+fetch_bad_word_report = refl

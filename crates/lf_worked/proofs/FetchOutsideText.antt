@@ -1,0 +1,9 @@
+-- A jump to data halts by 01, and drains first.
+use Rattle.std.specs.Prelude.{◌≡◌, refl}
+use Rattle.lf_model.specs.Report.{report}
+use Rattle.lf_worked.specs.Machine.{machine}
+use Rattle.lf_worked.specs.FetchOutsideText.{fetch_outside_text_trace, fetch_outside_text_text}
+
+fetch_outside_text_report : report fetch_outside_text_trace ≡ fetch_outside_text_text
+unfolding machine fetch_outside_text_trace fetch_outside_text_text
+fetch_outside_text_report = refl

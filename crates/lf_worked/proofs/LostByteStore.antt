@@ -1,0 +1,9 @@
+-- A byte store whose word has two turned bits is lost, and stops the core by 2B.
+use Rattle.std.specs.Prelude.{◌≡◌, refl}
+use Rattle.lf_model.specs.Report.{report}
+use Rattle.lf_worked.specs.Machine.{machine}
+use Rattle.lf_worked.specs.LostByteStore.{lost_byte_store_trace, lost_byte_store_text}
+
+lost_byte_store_report : report lost_byte_store_trace ≡ lost_byte_store_text
+unfolding machine lost_byte_store_trace lost_byte_store_text
+lost_byte_store_report = refl

@@ -1,0 +1,9 @@
+-- STBAR drains each waiting store before it retires.
+use Rattle.std.specs.Prelude.{◌≡◌, refl}
+use Rattle.lf_model.specs.Report.{report}
+use Rattle.lf_worked.specs.Machine.{machine}
+use Rattle.lf_worked.specs.StbarDrains.{stbar_drains_trace, stbar_drains_text}
+
+stbar_drains_report : report stbar_drains_trace ≡ stbar_drains_text
+unfolding machine stbar_drains_trace stbar_drains_text
+stbar_drains_report = refl

@@ -1,0 +1,9 @@
+-- A load of a word with two turned bits stops the core by 09.
+use Rattle.std.specs.Prelude.{◌≡◌, refl}
+use Rattle.lf_model.specs.Report.{report}
+use Rattle.lf_worked.specs.Machine.{machine}
+use Rattle.lf_worked.specs.StopAtLoad.{stop_at_load_trace, stop_at_load_text}
+
+stop_at_load_report : report stop_at_load_trace ≡ stop_at_load_text
+unfolding machine stop_at_load_trace stop_at_load_text
+stop_at_load_report = refl

@@ -1,0 +1,9 @@
+-- Four struck bytes of a wanted word drop their line once, and the load fills it again by `data`.
+use Rattle.std.specs.Prelude.{◌≡◌, refl}
+use Rattle.lf_model.specs.Report.{report}
+use Rattle.lf_worked.specs.Machine.{machine}
+use Rattle.lf_worked.specs.StruckLine.{struck_line_trace, struck_line_text}
+
+struck_line_report : report struck_line_trace ≡ struck_line_text
+unfolding machine struck_line_trace struck_line_text
+struck_line_report = refl

@@ -1,0 +1,9 @@
+-- Three lines of one set of two ways, used out of order.
+use Rattle.std.specs.Prelude.{◌≡◌, refl}
+use Rattle.lf_model.specs.Report.{report}
+use Rattle.lf_worked.specs.Machine.{machine}
+use Rattle.lf_worked.specs.ThreeLinesInTwoWays.{three_lines_in_two_ways_trace, three_lines_in_two_ways_text}
+
+three_lines_in_two_ways_report : report three_lines_in_two_ways_trace ≡ three_lines_in_two_ways_text
+unfolding machine three_lines_in_two_ways_trace three_lines_in_two_ways_text
+three_lines_in_two_ways_report = refl
