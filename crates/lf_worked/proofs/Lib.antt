@@ -1,3 +1,8 @@
+mod Numerals
+mod Tests
+mod OperationTests
+mod ExecutionTest
+mod ResultsTest
 mod ByteOut
 mod CorrectedLoad
 mod StopAtLoad
