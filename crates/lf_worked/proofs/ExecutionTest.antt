@@ -1,15 +1,15 @@
 -- Whether a trace is an execution of its setup's code, by a test that computes, rule by rule.
-use Rattle.std.proofs.Common.{ℕ, ◌≡◌, ◌≤◌, ◌<◌, ◌+◌, ◌-◌, ◌&&◌, nat_le, nat_lt, Bool, true, false, not, refl, subst, sym, ap, ◌∙◌, arith, List, length, map, take, drop, slice_get, Option, Some, None, IfSome}
-use Rattle.std.specs.Prelude.{◌==◌, ⊤, count_by, IsSomeAnd}
-use Rattle.std.specs.List.{list_all, AllByRecursion}
+use Rattle.std.proofs.Common.{ℕ, ◌≡◌, ◌≤◌, ◌+◌, ◌-◌, ◌&&◌, nat_le, nat_lt, Bool, true, false, subst, arith, List, length, map, take, drop, slice_get, Option, Some, None}
+use Rattle.std.specs.Prelude.{◌==◌, count_by, IsSomeAnd}
+use Rattle.std.specs.List.{list_all}
 use Rattle.std.specs.Option.{option_map_or}
 use Rattle.std.proofs.lemmas.Bool.{eqb-true, eq-eqb, and_parts, leb-true, ltb-true, false≢true}
 use Rattle.lf_model.specs.Start.{initial_byte}
-use Rattle.lf_model.specs.Operation.{of_core, reads, stores, made, touches, byte_got}
-use Rattle.lf_model.specs.Places.{FailsNowhere, FailsNowhereIn, AtPlace}
+use Rattle.lf_model.specs.Operation.{of_core, reads, stores, made, byte_got}
+use Rattle.lf_model.specs.Places.{FailsNowhereIn}
 use Rattle.lf_model.specs.Order.{LoadOpAt, StoreStoreAt}
 use Rattle.lf_model.specs.Value.{ValueAt, Reads, stored, candidates}
-use Rattle.lf_model.specs.Once.{is_number, HasMaster, OnceAtCore, OnceAtOrder, OnceAtTransfer, OnceAtFinal, address_of}
+use Rattle.lf_model.specs.Once.{is_number, HasMaster, OnceAtCore, OnceAtTransfer, OnceAtFinal, address_of}
 use Rattle.lf_model.specs.Run.{Run}
 use Rattle.lf_model.specs.Execution.{program_order, run_of_core, IsThread, ThreadAt, IsExecution}
 use Rattle.lf_model.specs.declared.bus.Entry.{Entry}

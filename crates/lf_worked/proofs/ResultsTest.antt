@@ -1,6 +1,6 @@
 -- Whether the results of a trace are those of its execution, by a test that computes.
-use Rattle.std.proofs.Common.{ℕ, ◌≡◌, ◌≤◌, ◌<◌, ◌+◌, ◌&&◌, nat_le, nat_lt, Bool, true, false, refl, List, length, slice_get, Option, Some, None, IfSome}
-use Rattle.std.specs.Prelude.{◌==◌, ⊤, count_by}
+use Rattle.std.proofs.Common.{ℕ, ◌≡◌, ◌+◌, ◌&&◌, nat_le, nat_lt, Bool, true, false, List, length, slice_get, Option, IfSome}
+use Rattle.std.specs.Prelude.{◌==◌, count_by}
 use Rattle.std.specs.Option.{option_map_or}
 use Rattle.std.proofs.lemmas.Bool.{eqb-true, lt-ltb, and_parts, leb-true, false≢true}
 use Rattle.lf_model.specs.Start.{number_at}
