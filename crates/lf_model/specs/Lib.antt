@@ -35,3 +35,8 @@ pub mod RegisterUse
 pub mod StopCause
 pub mod Blanks
 pub mod FlipFates
+pub mod Caches
+pub mod Names
+pub mod Course
+pub mod Bus
+pub mod Ledger

@@ -14,6 +14,7 @@ pub mod flip;
 pub mod image;
 pub mod instruction;
 pub mod listed;
+pub mod place;
 pub mod record;
 pub mod setup;
 pub mod step;
