@@ -63,6 +63,8 @@ mod FlipsOfRegisters
 mod FlipsOfTags
 mod FlipsOfLines
 mod StruckLineByteStays
+mod LoadsOfEveryLength
+mod WindowOverflowHandled
 mod HalfStoreByCoreOne
 mod ByteAtomicNotes
 mod ScrubberWalksRound
@@ -70,3 +72,7 @@ mod CleanFix
 mod BadWordsWatched
 mod ThreeCoresSwap
 mod LostStoresOfTwoCores
+mod ByteOfZero
+mod OverwrittenBeforeItIsRead
+mod ThreeSteps
+mod FixedWordTakesTwoFlips

@@ -1,4 +1,4 @@
--- Tags of an empty way struck in the step of a load.
+-- A waiting store drains before a fill, and a struck tag asks for the fill again.
 use Rattle.std.specs.Prelude.{◌≡◌, refl}
 use Rattle.lf_model.specs.Execution.{IsExecution}
 use Rattle.lf_model.specs.Report.{report}

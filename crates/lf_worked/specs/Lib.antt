@@ -60,6 +60,8 @@ pub mod FlipsOfRegisters
 pub mod FlipsOfTags
 pub mod FlipsOfLines
 pub mod StruckLineByteStays
+pub mod LoadsOfEveryLength
+pub mod WindowOverflowHandled
 pub mod HalfStoreByCoreOne
 pub mod ByteAtomicNotes
 pub mod ScrubberWalksRound
@@ -67,3 +69,7 @@ pub mod CleanFix
 pub mod BadWordsWatched
 pub mod ThreeCoresSwap
 pub mod LostStoresOfTwoCores
+pub mod ByteOfZero
+pub mod OverwrittenBeforeItIsRead
+pub mod ThreeSteps
+pub mod FixedWordTakesTwoFlips
