@@ -1,2 +1,4 @@
 pub mod EachLemmas
 pub mod SplitLemmas
+pub mod SameNames
+pub mod SameAccount

@@ -4,3 +4,5 @@ pub mod CoreAccount
 pub mod OrderAccount
 pub mod FlipFate
 pub mod Account
+pub mod Same
+pub mod Rule
