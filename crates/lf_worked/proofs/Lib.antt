@@ -3,6 +3,7 @@ mod Tests
 mod OperationTests
 mod ExecutionTest
 mod ResultsTest
+mod LedgerTest
 mod ByteOut
 mod CorrectedLoad
 mod StopAtLoad

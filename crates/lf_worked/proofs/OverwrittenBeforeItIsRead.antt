@@ -1,11 +1,13 @@
 -- Two flips of a register in the step that writes it: nothing is stopped.
 use Rattle.std.specs.Prelude.{◌≡◌, refl}
 use Rattle.lf_model.specs.Execution.{IsExecution}
+use Rattle.lf_model.specs.Ledger.Rule.{KeepsLedger}
 use Rattle.lf_model.specs.Report.{report}
 use Rattle.lf_model.specs.Results.{HasResults}
 use Rattle.lf_worked.specs.Machine.{machine}
 use Rattle.lf_worked.specs.OverwrittenBeforeItIsRead.{overwritten_before_it_is_read_setup, overwritten_before_it_is_read_trace, overwritten_before_it_is_read_text}
 use Rattle.lf_worked.proofs.ExecutionTest.{execution}
+use Rattle.lf_worked.proofs.LedgerTest.{ledger}
 use Rattle.lf_worked.proofs.ResultsTest.{results}
 
 overwritten_before_it_is_read_report : report overwritten_before_it_is_read_trace ≡ overwritten_before_it_is_read_text
@@ -19,3 +21,7 @@ overwritten_before_it_is_read_execution = execution overwritten_before_it_is_rea
 overwritten_before_it_is_read_results : HasResults overwritten_before_it_is_read_setup overwritten_before_it_is_read_trace
 unfolding machine overwritten_before_it_is_read_setup overwritten_before_it_is_read_trace
 overwritten_before_it_is_read_results = results overwritten_before_it_is_read_setup overwritten_before_it_is_read_trace refl
+
+overwritten_before_it_is_read_ledger : KeepsLedger overwritten_before_it_is_read_setup overwritten_before_it_is_read_trace
+unfolding machine overwritten_before_it_is_read_setup overwritten_before_it_is_read_trace
+overwritten_before_it_is_read_ledger = ledger overwritten_before_it_is_read_setup overwritten_before_it_is_read_trace refl

@@ -1,11 +1,13 @@
 -- A load of a word with two turned bits stops the core by 09.
 use Rattle.std.specs.Prelude.{◌≡◌, refl}
 use Rattle.lf_model.specs.Execution.{IsExecution}
+use Rattle.lf_model.specs.Ledger.Rule.{KeepsLedger}
 use Rattle.lf_model.specs.Report.{report}
 use Rattle.lf_model.specs.Results.{HasResults}
 use Rattle.lf_worked.specs.Machine.{machine}
 use Rattle.lf_worked.specs.StopAtLoad.{stop_at_load_setup, stop_at_load_trace, stop_at_load_text}
 use Rattle.lf_worked.proofs.ExecutionTest.{execution}
+use Rattle.lf_worked.proofs.LedgerTest.{ledger}
 use Rattle.lf_worked.proofs.ResultsTest.{results}
 
 stop_at_load_report : report stop_at_load_trace ≡ stop_at_load_text
@@ -19,3 +21,7 @@ stop_at_load_execution = execution stop_at_load_setup stop_at_load_trace refl
 stop_at_load_results : HasResults stop_at_load_setup stop_at_load_trace
 unfolding machine stop_at_load_setup stop_at_load_trace
 stop_at_load_results = results stop_at_load_setup stop_at_load_trace refl
+
+stop_at_load_ledger : KeepsLedger stop_at_load_setup stop_at_load_trace
+unfolding machine stop_at_load_setup stop_at_load_trace
+stop_at_load_ledger = ledger stop_at_load_setup stop_at_load_trace refl

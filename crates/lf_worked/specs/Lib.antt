@@ -1,4 +1,5 @@
 pub mod Rows
+pub mod Edits
 pub mod Machine
 pub mod ByteOut
 pub mod CorrectedLoad
