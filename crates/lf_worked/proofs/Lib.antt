@@ -4,6 +4,7 @@ mod OperationTests
 mod ExecutionTest
 mod ResultsTest
 mod LedgerTest
+mod Items
 mod ByteOut
 mod CorrectedLoad
 mod StopAtLoad
@@ -77,3 +78,12 @@ mod ByteOfZero
 mod OverwrittenBeforeItIsRead
 mod ThreeSteps
 mod FixedWordTakesTwoFlips
+mod WrongSteps
+mod WrongCores
+mod WrongPlaces
+mod WrongTransfers
+mod WrongFates
+mod WrongFinal
+mod WrongOrders
+mod WrongResults
+mod WrongWithoutLedger

@@ -1,6 +1,6 @@
 -- Words in which a wrong report is written: a right one with a few lines changed.
 use Prim.Native.String.{String}
-use Rattle.std.specs.Prelude.{ℕ, ◌-◌, ◌+◌, ◌++◌, ◌∷◌, List, take, drop, slice_set}
+use Rattle.std.specs.Prelude.{ℕ, zero, suc, ◌-◌, ◌++◌, ◌∷◌, [], List, take, drop, slice_set}
 use Rattle.lf_model.specs.declared.bus.Transfer.{Transfer}
 use Rattle.lf_model.specs.declared.trace.CoreResult.{CoreResult}
 use Rattle.lf_model.specs.declared.trace.Fate.{Fate}
@@ -12,8 +12,13 @@ use Rattle.lf_model.specs.declared.trace.Word2.{Word2}
 abbrev pub at : {X : Type 0} → ℕ → X → List X → List X
 at i x xs = slice_set xs i x
 
-abbrev pub with_core : ℕ → CoreResult → Trace → Trace
-with_core c r trace = record trace { cores = at c r trace.cores }
+abbrev pub changed_at : {X : Type 0} → ℕ → (X → X) → List X → List X
+changed_at i change [] = []
+changed_at zero change (x ∷ xs) = change x ∷ xs
+changed_at (suc i) change (x ∷ xs) = x ∷ changed_at i change xs
+
+abbrev pub with_core : ℕ → (CoreResult → CoreResult) → Trace → Trace
+with_core c change trace = record trace { cores = changed_at c change trace.cores }
 
 abbrev pub with_transfer : ℕ → Transfer → Trace → Trace
 with_transfer turn t trace = record trace { transfers = at turn t trace.transfers }
