@@ -2,3 +2,5 @@ pub mod EachLemmas
 pub mod SplitLemmas
 pub mod SameNames
 pub mod SameAccount
+pub mod CourseLemmas
+pub mod ReplayLemmas

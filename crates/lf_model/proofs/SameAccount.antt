@@ -212,4 +212,3 @@ accounts a b h =
     let e3 = lists same_fate fates_same a.fates b.fates p3.0 in
     let e4 = finals a.final b.final p3.1 in
     on (on (on (on (ap (make_accounts) e0) e1) e2) e3) e4
-

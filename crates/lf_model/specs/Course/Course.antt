@@ -12,9 +12,13 @@ use Rattle.lf_model.specs.declared.bus.Transfer.{Transfer}
 abbrev pub stored_at : Transfer → List ℕ
 stored_at t = if enters_log t then t.addr ∷ [] else []
 
+-- the core with stores of others that it has not yet seen
+abbrev pub with_unseen : List ℕ → Progress → Progress
+with_unseen addrs k = record k { unseen = k.unseen ++ addrs }
+
 -- a transfer of another
 abbrev pub others_turn : Transfer → Progress → Progress
-others_turn t k = record k { unseen = k.unseen ++ stored_at t }
+others_turn t k = with_unseen (stored_at t) k
 
 -- the core as its own transfer's step begins: the steps before it are local
 abbrev pub up_to : Ground → Transfer → Progress → Progress
