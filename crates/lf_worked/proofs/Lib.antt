@@ -36,6 +36,12 @@ mod FlushEmpties
 mod OwnStoreStays
 mod StoreIsAUse
 mod CodeInTwoWays
+mod FarLinesOfOneSet
+mod SecondWordStruck
+mod SnoopChecksTags
+mod StoreChecksTags
+mod FlipsOfCoreOne
+mod CellOfTheNumberOfATurn
 mod FetchAfterStruckTag
 mod FetchAfterStruckByte
 mod FetchBadWord

@@ -32,6 +32,12 @@ pub mod FlushEmpties
 pub mod OwnStoreStays
 pub mod StoreIsAUse
 pub mod CodeInTwoWays
+pub mod FarLinesOfOneSet
+pub mod SecondWordStruck
+pub mod SnoopChecksTags
+pub mod StoreChecksTags
+pub mod FlipsOfCoreOne
+pub mod CellOfTheNumberOfATurn
 pub mod FetchAfterStruckTag
 pub mod FetchAfterStruckByte
 pub mod FetchBadWord
