@@ -40,3 +40,5 @@ pub mod Names
 pub mod Course
 pub mod Bus
 pub mod Ledger
+pub mod Promise
+pub mod Records
