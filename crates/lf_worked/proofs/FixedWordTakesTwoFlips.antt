@@ -1,27 +1,15 @@
 -- A word that a fix wrote takes two flips again.
 use Rattle.std.specs.Prelude.{◌≡◌, refl}
-use Rattle.lf_model.specs.Execution.{IsExecution}
-use Rattle.lf_model.specs.Ledger.Rule.{KeepsLedger}
+use Rattle.lf_model.specs.Promise.Played.{IsPlayedBy}
 use Rattle.lf_model.specs.Report.{report}
-use Rattle.lf_model.specs.Results.{HasResults}
 use Rattle.lf_worked.specs.Machine.{machine}
-use Rattle.lf_worked.specs.FixedWordTakesTwoFlips.{fixed_word_takes_two_flips_setup, fixed_word_takes_two_flips_trace, fixed_word_takes_two_flips_text}
-use Rattle.lf_worked.proofs.ExecutionTest.{execution}
-use Rattle.lf_worked.proofs.LedgerTest.{ledger}
-use Rattle.lf_worked.proofs.ResultsTest.{results}
+use Rattle.lf_worked.specs.FixedWordTakesTwoFlips.{fixed_word_takes_two_flips_setup, fixed_word_takes_two_flips_events, fixed_word_takes_two_flips_trace, fixed_word_takes_two_flips_text}
+use Rattle.lf_worked.proofs.PromiseTest.{played}
 
 fixed_word_takes_two_flips_report : report fixed_word_takes_two_flips_trace ≡ fixed_word_takes_two_flips_text
 unfolding machine fixed_word_takes_two_flips_trace fixed_word_takes_two_flips_text
 fixed_word_takes_two_flips_report = refl
 
-fixed_word_takes_two_flips_execution : IsExecution fixed_word_takes_two_flips_setup fixed_word_takes_two_flips_trace
-unfolding machine fixed_word_takes_two_flips_setup fixed_word_takes_two_flips_trace
-fixed_word_takes_two_flips_execution = execution fixed_word_takes_two_flips_setup fixed_word_takes_two_flips_trace refl
-
-fixed_word_takes_two_flips_results : HasResults fixed_word_takes_two_flips_setup fixed_word_takes_two_flips_trace
-unfolding machine fixed_word_takes_two_flips_setup fixed_word_takes_two_flips_trace
-fixed_word_takes_two_flips_results = results fixed_word_takes_two_flips_setup fixed_word_takes_two_flips_trace refl
-
-fixed_word_takes_two_flips_ledger : KeepsLedger fixed_word_takes_two_flips_setup fixed_word_takes_two_flips_trace
-unfolding machine fixed_word_takes_two_flips_setup fixed_word_takes_two_flips_trace
-fixed_word_takes_two_flips_ledger = ledger fixed_word_takes_two_flips_setup fixed_word_takes_two_flips_trace refl
+fixed_word_takes_two_flips_played : IsPlayedBy fixed_word_takes_two_flips_setup fixed_word_takes_two_flips_events fixed_word_takes_two_flips_trace
+unfolding machine fixed_word_takes_two_flips_setup fixed_word_takes_two_flips_events fixed_word_takes_two_flips_trace
+fixed_word_takes_two_flips_played = played fixed_word_takes_two_flips_setup fixed_word_takes_two_flips_events fixed_word_takes_two_flips_trace refl

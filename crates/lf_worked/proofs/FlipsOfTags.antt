@@ -1,27 +1,15 @@
 -- What becomes of flips of tag bytes.
 use Rattle.std.specs.Prelude.{◌≡◌, refl}
-use Rattle.lf_model.specs.Execution.{IsExecution}
-use Rattle.lf_model.specs.Ledger.Rule.{KeepsLedger}
+use Rattle.lf_model.specs.Promise.Played.{IsPlayedBy}
 use Rattle.lf_model.specs.Report.{report}
-use Rattle.lf_model.specs.Results.{HasResults}
 use Rattle.lf_worked.specs.Machine.{machine}
-use Rattle.lf_worked.specs.FlipsOfTags.{flips_of_tags_setup, flips_of_tags_trace, flips_of_tags_text}
-use Rattle.lf_worked.proofs.ExecutionTest.{execution}
-use Rattle.lf_worked.proofs.LedgerTest.{ledger}
-use Rattle.lf_worked.proofs.ResultsTest.{results}
+use Rattle.lf_worked.specs.FlipsOfTags.{flips_of_tags_setup, flips_of_tags_events, flips_of_tags_trace, flips_of_tags_text}
+use Rattle.lf_worked.proofs.PromiseTest.{played}
 
 flips_of_tags_report : report flips_of_tags_trace ≡ flips_of_tags_text
 unfolding machine flips_of_tags_trace flips_of_tags_text
 flips_of_tags_report = refl
 
-flips_of_tags_execution : IsExecution flips_of_tags_setup flips_of_tags_trace
-unfolding machine flips_of_tags_setup flips_of_tags_trace
-flips_of_tags_execution = execution flips_of_tags_setup flips_of_tags_trace refl
-
-flips_of_tags_results : HasResults flips_of_tags_setup flips_of_tags_trace
-unfolding machine flips_of_tags_setup flips_of_tags_trace
-flips_of_tags_results = results flips_of_tags_setup flips_of_tags_trace refl
-
-flips_of_tags_ledger : KeepsLedger flips_of_tags_setup flips_of_tags_trace
-unfolding machine flips_of_tags_setup flips_of_tags_trace
-flips_of_tags_ledger = ledger flips_of_tags_setup flips_of_tags_trace refl
+flips_of_tags_played : IsPlayedBy flips_of_tags_setup flips_of_tags_events flips_of_tags_trace
+unfolding machine flips_of_tags_setup flips_of_tags_events flips_of_tags_trace
+flips_of_tags_played = played flips_of_tags_setup flips_of_tags_events flips_of_tags_trace refl

@@ -4,6 +4,7 @@ mod OperationTests
 mod ExecutionTest
 mod ResultsTest
 mod LedgerTest
+mod PromiseTest
 mod Items
 mod ByteOut
 mod CorrectedLoad
