@@ -1,20 +1,19 @@
 -- The items of an account, as numbers, and how two accounts are shown to differ in one.
-use Rattle.std.proofs.Common.{ℕ, ◌≡◌, ◌≤◌, ◌<◌, ◌+◌, Bool, true, false, List, [], slice_get, Option, Some, None, sym, ap, ◌∙◌, arith, nat_le, nat_lt}
-use Rattle.std.specs.Prelude.{◌==◌, slice_index, slice_index_or, length, option_map, option_and_then}
+use Rattle.std.proofs.Common.{ℕ, ◌≡◌, ◌≤◌, ◌<◌, ◌+◌, Bool, false, List, slice_get, Option, sym, ap, ◌∙◌, arith, nat_le, nat_lt}
+use Rattle.std.specs.Prelude.{◌==◌, slice_index, length, option_map}
 use Rattle.std.specs.Int.{from_bool}
 use Rattle.std.specs.Option.{option_map_or}
-use Rattle.std.proofs.lemmas.Bool.{eqb-false, leb-false, ltb-false, false≢true}
-use Rattle.lf_model.specs.Bus.Replay.{LogEntry}
+use Rattle.std.proofs.lemmas.Bool.{eqb-false, leb-false, ltb-false}
 use Rattle.lf_model.specs.Course.Outcome.{Need}
 use Rattle.lf_model.specs.Course.Outcome.Need.{NoTurn, Turn, RegisterStop}
 use Rattle.lf_model.specs.Course.Progress.{Completion, ErrorTrap}
 use Rattle.lf_model.specs.Ledger.Account.{TurnAccount, Account}
 use Rattle.lf_model.specs.Ledger.CoreAccount.{CoreAccount}
 use Rattle.lf_model.specs.Ledger.OrderAccount.{OrderAccount}
+use Rattle.lf_model.specs.Promise.Turns.{Turn as BusTurn}
 use Rattle.lf_model.specs.Names.{kind_place, why_place, fate_place}
 use Rattle.lf_model.specs.declared.bus.Entry.{Entry}
 use Rattle.lf_model.specs.declared.bus.Transfer.{Transfer}
-use Rattle.lf_model.specs.declared.trace.Four.{Four}
 
 -- things that are told apart by a number of each
 pub differ : {A : Type 0} {a b : A} (f : A → ℕ) (x y : ℕ) → f a ≡ x → f b ≡ y → (x == y) ≡ false → a ≡ b → ⊥
@@ -184,3 +183,21 @@ first_address ops = option_map_or (λ e. e.addr) (slice_get ops 0) 0
 
 abbrev pub put_of : ℕ → List Entry → ℕ
 put_of k ops = option_map_or (λ e. e.put) (slice_get ops k) 0
+
+-- ---- of lists of turns, error traps and answers
+
+abbrev pub master_at : ℕ → List BusTurn → ℕ
+master_at i turns = option_map_or (λ t. t.master) (slice_get turns i) 0
+
+-- 1 where the schedule asked for the drain
+abbrev pub scheduled_at : ℕ → List BusTurn → ℕ
+scheduled_at i turns = option_map_or (λ t. from_bool t.scheduled) (slice_get turns i) 0
+
+abbrev pub first_syndrome : List ErrorTrap → ℕ
+first_syndrome errors = option_map_or (λ e. e.syndrome) (slice_get errors 0) 0
+
+abbrev pub first_place : List ErrorTrap → ℕ
+first_place errors = option_map_or (λ e. e.place) (slice_get errors 0) 0
+
+abbrev pub yes_at : ℕ → List Bool → ℕ
+yes_at i answers = option_map_or from_bool (slice_get answers i) 0

@@ -94,3 +94,6 @@ mod WrongFinal
 mod WrongOrders
 mod WrongResults
 mod WrongWithoutLedger
+mod WrongHeadline
+mod WrongSchedule
+mod WrongRanges

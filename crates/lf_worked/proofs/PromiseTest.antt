@@ -1,10 +1,10 @@
 -- Whether all that is promised of a run holds of a trace, by a test that computes.
-use Rattle.std.proofs.Common.{ℕ, ◌≡◌, ◌&&◌, nat_le, Bool, true, false, refl, List, length, map, slice_get, Option}
+use Rattle.std.proofs.Common.{ℕ, ◌≡◌, ◌&&◌, nat_le, Bool, true, false, refl, List, length, map, slice_get}
 use Rattle.std.specs.Prelude.{◌==◌, is_none}
 use Rattle.std.specs.List.{list_all, range_with_len}
 use Rattle.std.specs.Option.{option_map_or}
 use Rattle.std.proofs.lemmas.Bool.{eqb-true, leb-true, and_parts, false≢true}
-use Rattle.lf_model.specs.Bus.Replay.{Core, Replay}
+use Rattle.lf_model.specs.Bus.Replay.{Core}
 use Rattle.lf_model.specs.Course.Progress.{ErrorTrap}
 use Rattle.lf_model.specs.Ledger.Account.{replay_of, is_bad_at}
 use Rattle.lf_model.specs.Ledger.CoreAccount.{blank_registers, errors_told}
