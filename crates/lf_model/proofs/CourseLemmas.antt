@@ -30,7 +30,7 @@ module _ (g : Ground) where
   local_steps_others zero t k = refl
   local_steps_others (suc n) t k = ap (local_steps g n) (local_step_others t k) ∙ local_steps_others n t (local_step g k)
 
-  -- one more step is made behind the others
+  -- one more step is made after the others
   pub local_steps_more : (n : ℕ) (k : Progress) → local_steps g (suc n) k ≡ local_step g (local_steps g n k)
   local_steps_more zero k = refl
   local_steps_more (suc n) k = local_steps_more n (local_step g k)
@@ -65,7 +65,7 @@ module _ (g : Ground) where
   pub course_later : (ts us : List Transfer) → Each IsOthers us → course g (ts ++ us) ≡ with_unseen (all_stored_at us) (course g ts)
   course_later ts us others = fold-append (observe g) (start g) ts us ∙ later_others (course g ts) us others
 
-  -- ---- a core that has made n local steps behind these transfers
+  -- ---- a core that has made n local steps after these transfers
 
   pub record IsAt (ts : List Transfer) (n : ℕ) (k : Progress) : Type 0 where
     pub at : k ≡ local_steps g n (course g ts)
@@ -88,7 +88,7 @@ module _ (g : Ground) where
   made : (ts : List Transfer) (n : ℕ) (k : Progress) (t : Transfer) → IsAt ts n k → t.step ≡ k.steps → n ≡ t.step - (course g ts).steps
   made ts n k t h step = omega (arith, step, ap (λ (j : Progress). j.steps) h.at, local_steps_count n (course g ts))
 
-  -- it makes its own turn, which tells the step behind those that it made
+  -- it makes its own turn, whose transfer names the step after those that it made
   pub at_own_turn : (ts : List Transfer) (n : ℕ) (k : Progress) (t : Transfer) → IsAt ts n k → (g.core == t.master) ≡ true → t.step ≡ k.steps
       → IsAt (ts ++ t ∷ []) 0 (own_turn g t k)
   at_own_turn ts n k t h own step = record {

@@ -4,3 +4,4 @@ pub mod SameNames
 pub mod SameAccount
 pub mod CourseLemmas
 pub mod ReplayLemmas
+pub mod TouchLemmas

@@ -1,5 +1,5 @@
 -- The run of all masters: each of its cores is that core's course over the transfers that were made, and where every transfer
--- told is the one made, these are the transfers told.
+-- reported is the one made, these are the transfers reported.
 use Rattle.std.proofs.Common.{◌≡◌, ◌∙◌, ◌++◌, ℕ, List, [], ◌∷◌, fold, map, refl, ap, sym}
 use Rattle.std.proofs.lemmas.List.{append_assoc, append-nil, map-append, map-id}
 use Rattle.std.proofs.lemmas.Simd.{map-map}
@@ -14,16 +14,16 @@ use Rattle.lf_model.specs.declared.bus.Transfer.{Transfer}
 use Rattle.lf_model.specs.declared.setup.Setup.{Setup}
 
 module _ (setup : Setup) where
-  -- the transfer that is made where this one is told
+  -- the transfer that is made where this one is reported
   abbrev pub made_in : Replay → Transfer → Transfer
   made_in r t = (made_turn r (words_begun setup.flips r.turns r.words) t).transfer
 
-  -- those that are made where these are told
+  -- those that are made where these are reported
   abbrev pub made_from : Replay → List Transfer → List Transfer
   made_from r [] = []
   made_from r (t ∷ ts) = made_in r t ∷ made_from (replay_turn setup r t) ts
 
-  -- a core behind these transfers
+  -- a core after these transfers
   abbrev pub core_over : List Transfer → Core → Core
   core_over ts c = record c { progress = fold (observe c.on) c.progress ts }
 
@@ -49,21 +49,21 @@ module _ (setup : Setup) where
       ∙ (ap (λ us. us ++ made_from (replay_turn setup r t) ts) (turn_made r t)
       ∙ append_assoc (map transfer_made r.made) (made_in r t ∷ []) (made_from (replay_turn setup r t) ts))
 
-  -- a core that has made nothing yet, behind these transfers
-  abbrev pub core_behind : List Transfer → Ground → Core
-  core_behind ts g = record { on = g; progress = course g ts }
+  -- a core that has made nothing yet, after these transfers
+  abbrev pub core_after_all : List Transfer → Ground → Core
+  core_after_all ts g = record { on = g; progress = course g ts }
 
   -- each core is its course over the transfers that were made
   pub cores_are_courses : (grounds : List Ground) (ts : List Transfer)
       → (fold (replay_turn setup) (replay_start setup grounds) ts).cores
-      ≡ map (core_behind (map transfer_made (fold (replay_turn setup) (replay_start setup grounds) ts).made)) grounds
+      ≡ map (core_after_all (map transfer_made (fold (replay_turn setup) (replay_start setup grounds) ts).made)) grounds
   cores_are_courses grounds ts =
       cores_after (replay_start setup grounds) ts
       ∙ (map-map (core_over (made_from (replay_start setup grounds) ts)) core_start grounds
-      ∙ ap (λ us. map (core_behind us) grounds) (sym (made_after (replay_start setup grounds) ts)))
+      ∙ ap (λ us. map (core_after_all us) grounds) (sym (made_after (replay_start setup grounds) ts)))
 
-  -- where each transfer told is the one that is made, those made are those told
-  pub made_as_told : (r : Replay) (ts : List Transfer)
+  -- where each transfer reported is the one that is made, those made are those reported
+  pub made_as_reported : (r : Replay) (ts : List Transfer)
       → ((pre post : List Transfer) (t : Transfer) → ts ≡ pre ++ t ∷ post → made_in (fold (replay_turn setup) r pre) t ≡ t) → made_from r ts ≡ ts
-  made_as_told r [] each = refl
-  made_as_told r (t ∷ ts) each = rw (each [] ts t refl, made_as_told (replay_turn setup r t) ts (λ pre post u split. each (t ∷ pre) post u (ap (λ us. t ∷ us) split))) refl
+  made_as_reported r [] each = refl
+  made_as_reported r (t ∷ ts) each = rw (each [] ts t refl, made_as_reported (replay_turn setup r t) ts (λ pre post u split. each (t ∷ pre) post u (ap (λ us. t ∷ us) split))) refl

@@ -10,3 +10,4 @@ pub mod Syndromes
 pub mod Turn
 pub mod Turned
 pub mod Course
+pub mod Touches

@@ -1,4 +1,4 @@
--- The ledger: all that a trace tells, against what the course of its cores and the run of the bus give.
+-- The ledger: all that a trace reports, against what the course of its cores and the run of the bus give.
 pub mod Steps
 pub mod CoreAccount
 pub mod OrderAccount

@@ -1,5 +1,5 @@
 -- What is promised of a run: its trace is regular, follows the schedule, keeps the ledger, and is an execution whose results it
--- tells.
+-- reports.
 pub mod RegularTransfer
 pub mod Regular
 pub mod Turns

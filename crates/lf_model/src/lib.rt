@@ -20,5 +20,6 @@ pub mod setup;
 pub mod step;
 #[cfg(test)]
 mod tests;
+pub mod touch;
 pub mod trace;
 pub mod trap;

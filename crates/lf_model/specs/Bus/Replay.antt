@@ -69,9 +69,9 @@ entry_at g t (Some p) = entry_of g t p
 
 -- the turn of a core that has come so far, with this transfer
 abbrev pub made_of : Ground → Effect → Progress → Transfer → Transfer → Made
-made_of g e k told t = record {
+made_of g e k reported t = record {
   transfer = t;
-  need = turn_needs g told.why (turn_attempt g told.why e k) k;
+  need = turn_needs g reported.why (turn_attempt g reported.why e k) k;
   entry = entry_at g t (place_of g k e t.kind);
   named = name_of g t (bad_wanted k.run.state.ctl.pc e t);
 }
@@ -96,7 +96,7 @@ made_by_master words t (Some c) = made_by_core words t c
 
 -- ---- a turn
 
--- the turn that a transfer tells, with these words as it begins
+-- the turn that a transfer reports, with these words as it begins
 unfoldable pub made_turn : Replay → List Word → Transfer → Made
 made_turn r words t = if t.master == scrubber then made_by_scrubber words r.turns r.walk
     else made_by_master words (record t { turn = r.turns }) (slice_get r.cores t.master)
@@ -123,7 +123,7 @@ replay_turn setup r t =
 abbrev pub core_finished : Core → Core
 core_finished c = record c { progress = finished c.on c.progress }
 
--- the cores make the steps behind their last transfers
+-- the cores make the steps after their last transfers
 abbrev pub replay_finished : Replay → Replay
 replay_finished r = record r { cores = map core_finished r.cores }
 

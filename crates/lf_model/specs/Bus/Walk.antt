@@ -1,4 +1,4 @@
--- The walk of the scrubber (GRLIB, MEMSCRUB, scrub mode): it looks at its range line by line, round and round, and behind each
+-- The walk of the scrubber (GRLIB, MEMSCRUB, scrub mode): it looks at its range line by line, round and round, and after each
 -- look makes one fix for each word that it read not clean, in the order of their addresses. The order is this machine's own.
 use Rattle.std.specs.Prelude.{ℕ, ◌+◌, ◌*◌, ◌==◌, not, List, [], ◌∷◌, filter, map, drop, slice_index, if◌then◌else◌}
 use Rattle.std.specs.List.{range_with_len}
@@ -21,7 +21,7 @@ pub record Walk : Type 0 where
 abbrev pub walk_start : Range → Walk
 walk_start range = record { line = range.first; noted = []; turns = 0 }
 
--- the line behind this one, round the range
+-- the line after this one, round the range
 abbrev pub next_line : Range → ℕ → ℕ
 next_line range line = if line + 32 == range.first + range.length then range.first else line + 32
 
@@ -56,7 +56,7 @@ next_transfer turn w (addr ∷ rest) = record {
 abbrev pub words_noted : Transfer → List ℕ
 words_noted t = map (λ j. t.addr + 4 * j) (filter (λ j. not (slice_index (syndromes_of t) j == 0)) (range_with_len 0 t.words))
 
--- the walk after its next transfer, of which memory told this
+-- the walk after its next transfer, to which memory answered this
 abbrev pub walked : Range → Transfer → Walk → List ℕ → Walk
 walked range t w [] = record { line = next_line range w.line; noted = words_noted t; turns = w.turns + 1 }
 walked range t w (addr ∷ rest) = record w { noted = rest; turns = w.turns + 1 }

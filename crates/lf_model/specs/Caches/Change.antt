@@ -20,7 +20,7 @@ abbrev pub update_by : ℕ → ℕ → Cache → Option ℕ → Cache
 update_by addr len cache None = cache
 update_by addr len cache (Some i) = used i (with_slot (stored_in addr len) i cache)
 
--- an own store of so many bytes: behind the tag check, its bytes are written where the line is present
+-- an own store of so many bytes: after the tag check, its bytes are written where the line is present
 unfoldable pub updated : ℕ → ℕ → Cache → Cache
 updated addr len cache = let k = checked addr cache in update_by addr len k.cache (matching addr k.cache)
 
@@ -30,7 +30,7 @@ abbrev pub drop_by : Cache → Option ℕ → Cache
 drop_by cache None = cache
 drop_by cache (Some i) = with_slot dropped i cache
 
--- the cache snoops a store at an address: behind the tag check, its line is dropped
+-- the cache snoops a store at an address: after the tag check, its line is dropped
 unfoldable pub snooped : Cache → ℕ → Cache
 snooped cache addr = let k = checked addr cache in drop_by k.cache (matching addr k.cache)
 

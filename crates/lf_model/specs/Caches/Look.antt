@@ -44,7 +44,7 @@ look_in addr len i cache = if not (has_wanted_words addr len (slot_at i cache)) 
     }
     else record { answer = Hit i; cache = used i cache }
 
--- the look-up behind the tag check, by the slot in which the line is present. Without one it misses, by a struck tag where the
+-- the look-up after the tag check, by the slot in which the line is present. Without one it misses, by a struck tag where the
 -- check dropped a way.
 abbrev pub look_by : ℕ → ℕ → Checked → Option ℕ → Looked
 look_by addr len k (Some i) = look_in addr len i k.cache

@@ -1,6 +1,6 @@
 -- One slot of a cache: one way of one set, with its tag and its line of 32 bytes (GRLIB, LEON3FT, cache subsystem). A tag has
 -- four bytes: bits 31 to 8 of the address, most significant first, and one valid bit for each word of the line. Each of them,
--- and each byte of the line, stands with its parity, so that a flip of one bit is seen. These shapes are this machine's own.
+-- and each byte of the line, is kept with its parity, so that a flip of one bit is seen. These shapes are this machine's own.
 use Rattle.std.specs.Prelude.{ℕ, ◌+◌, ◌-◌, ◌*◌, ◌/◌, ◌%◌, ◌^◌, ◌==◌, ◌&&◌, not, Bool, List, [], ◌∷◌, map, fold, replicate, slice_index, slice_index_or, slice_set, if◌then◌else◌}
 use Rattle.std.specs.Int.{bit_at}
 use Rattle.std.specs.List.{list_all, list_any, range_with_len}

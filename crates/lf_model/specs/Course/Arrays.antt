@@ -1,6 +1,6 @@
 -- The arrays of a core that flips strike: its register cells and its two caches. Flips strike as a step begins; instructions
 -- read and write the cells (GRLIB, LEON3FT, register file protection).
-use Rattle.std.specs.Prelude.{ℕ, ◌+◌, ◌*◌, ◌==◌, not, Bool, List, [], ◌∷◌, map, filter, fold, replicate, Option, Some, None, if◌then◌else◌}
+use Rattle.std.specs.Prelude.{ℕ, ◌+◌, ◌*◌, ◌==◌, not, Bool, true, false, List, [], ◌∷◌, map, filter, fold, replicate, Option, Some, None, if◌then◌else◌}
 use Rattle.lf_model.specs.Caches.Slot.{history_at, befalls, befalls_each, written}
 use Rattle.lf_model.specs.Caches.Cache.{Cache, empty_cache, with_slot}
 use Rattle.lf_model.specs.Flips.{Moment, is_bad_word, is_fixed_word}
@@ -68,10 +68,15 @@ pub record CellsRead : Type 0 where
   pub bad : Option ℕ
   pub cells : List (List Moment)
 
--- these cells are read, in order, up to the first bad one
+-- a cell is read, and the later ones unless it was bad
+abbrev pub read_then : ℕ → Bool → List (List Moment) → CellsRead → CellsRead
+read_then c true cells later = record { bad = Some c; cells = cells }
+read_then c false cells later = later
+
+-- these cells are read, in order, up to and with the first bad one
 abbrev pub read_cells : List ℕ → List (List Moment) → CellsRead
 read_cells [] cells = record { bad = None; cells = cells }
-read_cells (c ∷ cs) cells = if is_bad_word (history_at c cells) then record { bad = Some c; cells = cells } else read_cells cs (befalls read_back c cells)
+read_cells (c ∷ cs) cells = read_then c (is_bad_word (history_at c cells)) (befalls read_back c cells) (read_cells cs (befalls read_back c cells))
 
 -- these cells are written
 abbrev pub write_cells : List ℕ → Arrays → Arrays

@@ -4,6 +4,7 @@ use Rattle.std.specs.Prelude.{ℕ, ◌==◌, ◌&&◌, ◌||◌, not, Bool, true
 use Rattle.lf_model.specs.Execution.{answers_of}
 use Rattle.lf_model.specs.Operation.{made}
 use Rattle.lf_model.specs.Strikes.{numbered_flips}
+use Rattle.lf_model.specs.Traps.{instruction_access_exception, data_access_exception}
 use Rattle.lf_model.specs.declared.bus.Entry.{Entry}
 use Rattle.lf_model.specs.declared.bus.OpKind.{OpKind}
 use Rattle.lf_model.specs.declared.bus.OpKind.TheVariants.{Load, Store, Atomic, Lost}
@@ -60,37 +61,29 @@ ground_of setup core given end steps = record {
   steps = steps;
 }
 
--- ---- the error traps that end a core, by their types
+-- ---- the error traps that end a core: by a register cell, by a fetch (`instruction_access_exception`), by a load or an atomic
+-- (`data_access_exception`), and by a store. Which error gives which trap type is this machine's own.
 
--- `r_register_access_error`
-abbrev pub register_access_error : ℕ
-register_access_error = 0x20
+abbrev pub r_register_access_error : ℕ
+r_register_access_error = 0x20
 
--- `instruction_access_exception`, of a fetch; `data_access_exception`, of a load or an atomic
-abbrev pub fetch_error : ℕ
-fetch_error = 0x01
-
-abbrev pub data_error : ℕ
-data_error = 0x09
-
--- `data_store_error`
-abbrev pub store_error : ℕ
-store_error = 0x2B
+abbrev pub data_store_error : ℕ
+data_store_error = 0x2b
 
 -- the end is a stop by a register cell
 abbrev pub is_register_stop : CoreEnd → Bool
-is_register_stop (Stop tt_ place syn) = tt_ == register_access_error
+is_register_stop (Stop tt_ place syn) = tt_ == r_register_access_error
 is_register_stop (Halt tt_) = false
 is_register_stop Limit = false
 
 -- the end is a stop at the transfer of this turn
 abbrev pub is_stop_at : ℕ → CoreEnd → Bool
-is_stop_at turn (Stop tt_ place syn) = place == turn && (tt_ == fetch_error || tt_ == data_error || tt_ == store_error)
+is_stop_at turn (Stop tt_ place syn) = place == turn && (tt_ == instruction_access_exception || tt_ == data_access_exception || tt_ == data_store_error)
 is_stop_at turn (Halt tt_) = false
 is_stop_at turn Limit = false
 
 -- the end is a stop by a store, with which the stores that wait are lost
 abbrev pub is_store_stop : CoreEnd → Bool
-is_store_stop (Stop tt_ place syn) = tt_ == store_error
+is_store_stop (Stop tt_ place syn) = tt_ == data_store_error
 is_store_stop (Halt tt_) = false
 is_store_stop Limit = false

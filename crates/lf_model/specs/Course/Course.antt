@@ -32,6 +32,6 @@ observe g k t = if g.core == t.master then own_turn g t (up_to g t k) else other
 abbrev pub course : Ground → List Transfer → Progress
 course g transfers = fold (observe g) (start g) transfers
 
--- the core at its end: the steps behind its last transfer are local
+-- the core at its end: the steps after its last transfer are local
 abbrev pub finished : Ground → Progress → Progress
 finished g k = local_steps g (g.steps - k.steps) k

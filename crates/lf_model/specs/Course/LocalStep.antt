@@ -6,7 +6,7 @@ use Rattle.lf_model.specs.Caches.Cache.{Cache, way_of}
 use Rattle.lf_model.specs.Caches.Change.{updated, flushed}
 use Rattle.lf_model.specs.Course.Arrays.{Arrays, begun, write_cells}
 use Rattle.lf_model.specs.Course.Attempt.{Attempt, attempt}
-use Rattle.lf_model.specs.Course.Core.{Ground, is_store_kind, is_register_stop, register_access_error}
+use Rattle.lf_model.specs.Course.Core.{Ground, is_store_kind, is_register_stop, r_register_access_error}
 use Rattle.lf_model.specs.Course.Outcome.{Outcome, Need}
 use Rattle.lf_model.specs.Course.Outcome.Need.{NoTurn, Turn, RegisterStop}
 use Rattle.lf_model.specs.Course.Outcome.Outcome.{NotTried, NoText, FetchMiss, BadRegister, OrdinaryTrap, LoadMiss, LoadHit, Store, Atomic, Barrier, Other}
@@ -70,7 +70,7 @@ way_hit cache Other = None
 -- a step without a turn that needs the stop by a register cell has met an error trap
 abbrev pub register_errors : Arrays → Progress → Need → List ErrorTrap
 register_errors a k (RegisterStop cell) = record {
-  trap_type = register_access_error;
+  trap_type = r_register_access_error;
   place = cell;
   syndrome = syndrome (history_at cell a.cells);
   steps = k.steps + 1;

@@ -22,8 +22,8 @@ pub record ErrorTrap : Type 0 where
   pub steps : ℕ
   pub turns : ℕ
 
--- steps and turns: how many it made; quiet: its steps since its last turn; retired: the instructions that it retired, behind
--- which its run stands; stored and drained: the stores that retired, and those that left the store buffer; unseen: the addresses
+-- steps and turns: how many it made; quiet: its steps since its last turn; retired: the instructions that it retired; run:
+-- its state and operations then; stored and drained: the stores that retired, and those that left the store buffer; unseen: the addresses
 -- at which others stored since its last turn; seen: the entries of the log up to that turn; completions: of its operations, in
 -- program order; errors: those that it met; owed: its steps without a turn that needed one
 pub record Progress : Type 0 where

@@ -1,4 +1,4 @@
--- What a transfer tells of the words that it read: their syndromes, by which each of them was clean, fixed or bad.
+-- What a transfer shows of the words that it read: their syndromes, by which each of them was clean, fixed or bad.
 use Rattle.std.specs.Prelude.{ℕ, ◌+◌, ◌-◌, ◌*◌, ◌/◌, ◌%◌, ◌^◌, ◌==◌, ◌&&◌, not, Bool, List, [], ◌∷◌, length, map, fold, slice_index, if◌then◌else◌}
 use Rattle.std.specs.List.{list_any, range_with_len}
 use Rattle.lf_num.specs.Columns.{columns}

@@ -39,7 +39,7 @@ turn_attempt g why e k = if is_past_steps g k then comes_to NotTried k.arrays
     else if leaves_instruction why then comes_to NotTried (begun g.flips k.steps k.arrays)
     else attempt g.setup.image k.run.state e (begun g.flips k.steps k.arrays)
 
--- what the step of a turn with this cause needs. Behind the last step, and where the schedule asks, it is right to drain just
+-- what the step of a turn with this cause needs. After the last step, and where the schedule asks, it is right to drain just
 -- where a store waits.
 abbrev pub turn_needs : Ground → Why → Attempt → Progress → Need
 turn_needs g why x k = if is_past_steps g k then drains (store_waits k) whys.End NoTurn
@@ -86,7 +86,7 @@ place_by place None = None
 place_by place (Some x) = place x x.kind
 
 -- where a transfer of this kind is: none where it only catches up, as a fill or an atomic that the instruction at PC doesn't
--- make, and a store behind the last one
+-- make, and a store after the last one
 abbrev pub place_of : Ground → Progress → Effect → TurnKind → Option Place
 place_of g k e Fetch = if is_text_word g.setup.image.text k.run.state.ctl.pc then Some (line_place k.run.state.ctl.pc) else None
 place_of g k e Load = place_by load_place e.access

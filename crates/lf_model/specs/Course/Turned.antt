@@ -5,7 +5,7 @@ use Rattle.std.specs.List.{range_with_len}
 use Rattle.lf_model.specs.Caches.Slot.{wanted_words}
 use Rattle.lf_model.specs.Caches.Change.{snooped, filled}
 use Rattle.lf_model.specs.Course.Arrays.{Arrays, write_cells}
-use Rattle.lf_model.specs.Course.Core.{Ground, is_stop_at, fetch_error, data_error, store_error}
+use Rattle.lf_model.specs.Course.Core.{Ground, is_stop_at, data_store_error}
 use Rattle.lf_model.specs.Course.Progress.{ErrorTrap, Progress, retired_if}
 use Rattle.lf_model.specs.Course.Syndromes.{syndromes_of, met_bad, has_address, enters_log}
 use Rattle.lf_model.specs.Course.Turn.{is_past_steps, arrays_before}
@@ -13,6 +13,7 @@ use Rattle.lf_model.specs.Effect.{Access, Effect}
 use Rattle.lf_model.specs.Names.{same_kind}
 use Rattle.lf_model.specs.Run.{effect_at_pc}
 use Rattle.lf_model.specs.Start.{is_text_word}
+use Rattle.lf_model.specs.Traps.{instruction_access_exception, data_access_exception}
 use Rattle.lf_model.specs.declared.bus.Transfer.{Transfer}
 use Rattle.lf_model.specs.declared.bus.TurnKind.{TurnKind}
 use Rattle.lf_model.specs.declared.bus.TurnKind.TheVariants.{Fetch, Load, Store, Atomic, Snoop, Look, Fix}
@@ -68,10 +69,10 @@ bad_wanted pc e t = find (met_bad t) (turn_wants pc e t.kind)
 
 -- the error trap that a bad word gives; those of the last three kinds of turn want none
 abbrev pub turn_trap : TurnKind → ℕ
-turn_trap Fetch = fetch_error
-turn_trap Load = data_error
-turn_trap Store = store_error
-turn_trap Atomic = data_error
+turn_trap Fetch = instruction_access_exception
+turn_trap Load = data_access_exception
+turn_trap Store = data_store_error
+turn_trap Atomic = data_access_exception
 turn_trap Snoop = 0
 turn_trap Look = 0
 turn_trap Fix = 0
@@ -87,7 +88,7 @@ turn_errors t steps turns (Some j) =
 abbrev pub retires_by : Ground → Transfer → Bool
 retires_by g t = same_kind t.kind Atomic && not (is_stop_at t.turn g.end)
 
--- a core's turn, which this transfer tells, in the step behind those that it made
+-- a core's turn with this transfer, in the step after those that it made
 abbrev pub turned_by : Ground → Effect → Transfer → Progress → Progress
 turned_by g e t k =
     let steps = if is_past_steps g k then k.steps else k.steps + 1 in

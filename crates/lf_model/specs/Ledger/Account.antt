@@ -1,4 +1,4 @@
--- The account of a trace: that which its masters give, and that which it tells. They have to be the same.
+-- The account of a trace: that which its masters give, and that which it reports. They have to be the same.
 use Rattle.std.specs.Prelude.{ℕ, ◌==◌, Bool, List, [], ◌∷◌, ◌++◌, length, map, count_by, is_none, Option, Some, None, option_map, slice_get, if◌then◌else◌}
 use Rattle.std.specs.List.{enumerate_from, filter_map}
 use Rattle.lf_model.specs.Bus.Replay.{Core, LogEntry, Made, Replay, replay}
@@ -12,9 +12,9 @@ use Rattle.lf_model.specs.Course.Outcome.Need.{NoTurn, Turn}
 use Rattle.lf_model.specs.Course.Progress.{Completion}
 use Rattle.lf_model.specs.Execution.{program_order}
 use Rattle.lf_model.specs.Flips.{is_bad_word}
-use Rattle.lf_model.specs.Ledger.CoreAccount.{CoreAccount, core_by_course, core_as_told}
+use Rattle.lf_model.specs.Ledger.CoreAccount.{CoreAccount, core_by_course, core_as_reported}
 use Rattle.lf_model.specs.Ledger.FlipFate.{flip_fates}
-use Rattle.lf_model.specs.Ledger.OrderAccount.{OrderAccount, before_all, along, place_by_course, place_as_told}
+use Rattle.lf_model.specs.Ledger.OrderAccount.{OrderAccount, before_all, along, place_by_course, place_as_reported}
 use Rattle.lf_model.specs.declared.bus.Transfer.{Transfer}
 use Rattle.lf_model.specs.declared.setup.Setup.{Setup}
 use Rattle.lf_model.specs.declared.trace.CoreResult.{CoreResult}
@@ -59,7 +59,7 @@ grounds_in setup trace = map_numbered (ground_in setup trace) trace.cores
 abbrev pub replay_of : Setup → Trace → Replay
 replay_of setup trace = replay setup (grounds_in setup trace) trace.transfers
 
--- a transfer as a trace tells it: no line shows its length
+-- a transfer as a trace reports it: no line shows its length
 abbrev pub without_length : Transfer → Transfer
 without_length t = record t { len = 0 }
 
@@ -106,17 +106,17 @@ account_by_replay setup order r = record {
 abbrev pub account_by_course : Setup → Trace → Account
 account_by_course setup trace = account_by_replay setup trace.order (replay_of setup trace)
 
--- ---- as told
+-- ---- as reported
 
 -- the step of a core's transfer needed it
-abbrev pub need_told : Transfer → Need
-need_told t = if t.master == scrubber then NoTurn else Turn t.kind t.why
+abbrev pub need_reported : Transfer → Need
+need_reported t = if t.master == scrubber then NoTurn else Turn t.kind t.why
 
-abbrev pub turn_told : Transfer → TurnAccount
-turn_told t = record { transfer = t; need = need_told t }
+abbrev pub turn_reported : Transfer → TurnAccount
+turn_reported t = record { transfer = t; need = need_reported t }
 
-abbrev pub core_told : Trace → ℕ → CoreResult → CoreAccount
-core_told trace c r = core_as_told c r (program_order c trace.order) trace.transfers
+abbrev pub core_reported : Trace → ℕ → CoreResult → CoreAccount
+core_reported trace c r = core_as_reported c r (program_order c trace.order) trace.transfers
 
 abbrev pub value_missing : Word2 → Bool
 value_missing word = is_none word.value
@@ -124,18 +124,18 @@ value_missing word = is_none word.value
 abbrev pub is_scrubbers : Transfer → Bool
 is_scrubbers t = t.master == scrubber
 
-abbrev pub final_told : Trace → FinalAccount
-final_told trace = record {
+abbrev pub final_reported : Trace → FinalAccount
+final_reported trace = record {
   ahb = record { addr = trace.ahb_addr; status = trace.ahb_status };
   watch = map value_missing trace.watch;
   scrub_turns = count_by is_scrubbers trace.transfers;
 }
 
-abbrev pub account_as_told : Trace → Account
-account_as_told trace = record {
-  cores = map_numbered (core_told trace) trace.cores;
-  order = along place_as_told before_all trace.order;
-  transfers = map turn_told trace.transfers;
+abbrev pub account_as_reported : Trace → Account
+account_as_reported trace = record {
+  cores = map_numbered (core_reported trace) trace.cores;
+  order = along place_as_reported before_all trace.order;
+  transfers = map turn_reported trace.transfers;
   fates = trace.fates;
-  final = final_told trace;
+  final = final_reported trace;
 }

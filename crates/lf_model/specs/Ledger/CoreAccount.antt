@@ -60,24 +60,24 @@ core_by_course g k = record {
   blank = blank_registers k;
 }
 
--- ---- as told
+-- ---- as reported
 
--- the error trap that an end tells, which comes with the last of these steps and turns
-abbrev pub errors_told : CoreEnd → ℕ → ℕ → List ErrorTrap
-errors_told (Stop tt_ place syn) steps turns = record { trap_type = tt_; place = place; syndrome = syn; steps = steps; turns = turns } ∷ []
-errors_told (Halt tt_) steps turns = []
-errors_told Limit steps turns = []
+-- the error trap that an end names, which comes with the last of these steps and turns
+abbrev pub errors_reported : CoreEnd → ℕ → ℕ → List ErrorTrap
+errors_reported (Stop tt_ place syn) steps turns = record { trap_type = tt_; place = place; syndrome = syn; steps = steps; turns = turns } ∷ []
+errors_reported (Halt tt_) steps turns = []
+errors_reported Limit steps turns = []
 
--- which of a core's stores are told as lost
-abbrev pub lost_told : List Op → List ℕ
-lost_told stores = map (λ (o : ℕ × Op). o.0) (filter (λ (o : ℕ × Op). is_lost o.1) (zip (range_with_len 0 (length stores)) stores))
+-- which of a core's stores are reported as lost
+abbrev pub lost_reported : List Op → List ℕ
+lost_reported stores = map (λ (o : ℕ × Op). o.0) (filter (λ (o : ℕ × Op). is_lost o.1) (zip (range_with_len 0 (length stores)) stores))
 
 -- by a core's result, its operations in program order, and all transfers
-abbrev pub core_as_told : ℕ → CoreResult → List Op → List Transfer → CoreAccount
-core_as_told core r ops transfers = record {
+abbrev pub core_as_reported : ℕ → CoreResult → List Op → List Transfer → CoreAccount
+core_as_reported core r ops transfers = record {
   owed = 0;
-  errors = errors_told r.end r.steps (length (own_transfers core transfers));
-  lost = lost_told (filter is_store ops);
+  errors = errors_reported r.end r.steps (length (own_transfers core transfers));
+  lost = lost_reported (filter is_store ops);
   parity = r.parity;
   blank = map is_none r.regs;
 }

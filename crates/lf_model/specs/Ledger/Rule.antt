@@ -1,6 +1,6 @@
 -- The rule Ledger about a trace, and the first place at which it fails.
 use Rattle.std.specs.Prelude.{ℕ, ◌≡◌, ◌⊎◌, length, Option, Some, None, IfSome, slice_get}
-use Rattle.lf_model.specs.Ledger.Account.{Account, account_by_course, account_as_told}
+use Rattle.lf_model.specs.Ledger.Account.{Account, account_by_course, account_as_reported}
 use Rattle.lf_model.specs.Ledger.Steps.{HasSteps, own_transfers}
 use Rattle.lf_model.specs.Places.{FailsFirst, FailsNowhere}
 use Rattle.lf_model.specs.declared.place.Place.{Place}
@@ -12,10 +12,10 @@ use Rattle.lf_model.specs.declared.trace.Trace.{Trace}
 abbrev pub StepsAt : Setup → Trace → ℕ → Type 0
 StepsAt setup trace c = IfSome (slice_get trace.cores c) (λ r. HasSteps setup r (own_transfers c trace.transfers))
 
--- the ledger of a trace: the steps of all cores, and then all that it tells is what its masters give
+-- the ledger of a trace: the steps of all cores, and then all that it reports is what its masters give
 pub record KeepsLedger (setup : Setup) (trace : Trace) : Type 0 where
   pub steps : FailsNowhere setup.config.cores (StepsAt setup trace)
-  pub same : account_by_course setup trace ≡ account_as_told trace
+  pub same : account_by_course setup trace ≡ account_as_reported trace
 
 -- ---- the places of two accounts
 
@@ -36,14 +36,14 @@ SameFinal a b i = a.final ≡ b.final
 
 -- ---- the first place
 
--- a rule over n places is tried before later ones: it fails first at one of its places, which is told, or at none, and then
--- what is told is the first place of the later rules
+-- a rule over n places is tried before later ones: it fails first at one of its places, which is the answer, or at none, and then
+-- the answer is the first place of the later rules
 abbrev pub TriedBefore : (n : ℕ) → (ℕ → Type 0) → (ℕ → Place) → (Option Place → Type 0) → Option Place → Type 0
-TriedBefore n Holds place Later told = (FailsNowhere n Holds × Later told) ⊎ ((i : ℕ) × FailsFirst n Holds (Some i) × (told ≡ Some (place i)))
+TriedBefore n Holds place Later answer = (FailsNowhere n Holds × Later answer) ⊎ ((i : ℕ) × FailsFirst n Holds (Some i) × (answer ≡ Some (place i)))
 
--- no rule is left: no place is told
+-- no rule is left: the answer is none
 abbrev pub NoneLeft : Option Place → Type 0
-NoneLeft told = told ≡ None
+NoneLeft answer = answer ≡ None
 
 -- the rules of two accounts, place by place
 abbrev pub DifferFirst : Setup → Trace → Account → Account → Option Place → Type 0
@@ -57,4 +57,4 @@ DifferFirst setup trace a b =
 -- the first place at which the ledger of a trace fails, None where it fails nowhere: the steps of all cores come before all else
 abbrev pub LedgerFailsFirst : Setup → Trace → Option Place → Type 0
 LedgerFailsFirst setup trace =
-    TriedBefore setup.config.cores (StepsAt setup trace) Core (DifferFirst setup trace (account_by_course setup trace) (account_as_told trace))
+    TriedBefore setup.config.cores (StepsAt setup trace) Core (DifferFirst setup trace (account_by_course setup trace) (account_as_reported trace))

@@ -1,4 +1,4 @@
--- The steps of a core and its transfers: each step makes one at most, stores that still wait drain behind the last step, and as
+-- The steps of a core and its transfers: each step makes one at most, stores that still wait drain after the last step, and as
 -- many steps retire an instruction as were counted.
 use Rattle.std.specs.Prelude.{ℕ, ◌≡◌, ◌+◌, ◌-◌, ◌==◌, ◌&&◌, ◌||◌, nat_lt, nat_le, not, Bool, true, false, List, [], ◌∷◌, ◌++◌, length, map, filter, count_by}
 use Rattle.std.specs.Int.{from_bool}
@@ -17,7 +17,7 @@ use Rattle.lf_model.specs.declared.trace.CoreResult.{CoreResult}
 abbrev pub own_transfers : ℕ → List Transfer → List Transfer
 own_transfers core transfers = filter (λ t. t.master == core) transfers
 
--- those that it made in its steps, and those behind its last step
+-- those that it made in its steps, and those after its last step
 abbrev pub in_steps : ℕ → List Transfer → List Transfer
 in_steps steps own = filter (λ t. nat_lt t.step steps) own
 
@@ -29,7 +29,7 @@ abbrev pub ascends_from : ℕ → List Transfer → Bool
 ascends_from step [] = true
 ascends_from step (t ∷ ts) = nat_le step t.step && ascends_from (t.step + 1) ts
 
--- behind the last step that the configuration allows, a store drains
+-- after the last step that the configuration allows, a store drains
 abbrev pub is_last_drain : ℕ → Transfer → Bool
 is_last_drain limit t = t.step == limit && same_kind t.kind kinds.Store && same_why t.why whys.End
 

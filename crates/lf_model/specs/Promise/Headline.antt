@@ -1,10 +1,10 @@
--- The headline: a trace is an upset-free execution of the image's code in total store order, it tells the results of that
+-- The headline: a trace is an upset-free execution of the image's code in total store order, it reports the results of that
 -- execution, and an error trap stopped a core only where a word or a register cell with two turned bits was met.
 use Rattle.std.specs.Prelude.{ℕ, ◌≡◌, ◌==◌, length, map, is_none, IfSome, slice_get, option_and_then}
 use Rattle.lf_model.specs.Bus.Replay.{Core, Replay}
 use Rattle.lf_model.specs.Execution.{IsExecution}
 use Rattle.lf_model.specs.Ledger.Account.{replay_of, is_bad_at}
-use Rattle.lf_model.specs.Ledger.CoreAccount.{blank_registers, errors_told}
+use Rattle.lf_model.specs.Ledger.CoreAccount.{blank_registers, errors_reported}
 use Rattle.lf_model.specs.Ledger.Steps.{own_transfers}
 use Rattle.lf_model.specs.Places.{FailsNowhere}
 use Rattle.lf_model.specs.Results.{HasResults}
@@ -13,22 +13,22 @@ use Rattle.lf_model.specs.declared.trace.CoreResult.{CoreResult}
 use Rattle.lf_model.specs.declared.trace.Trace.{Trace}
 use Rattle.lf_model.specs.declared.trace.Word2.{Word2}
 
--- the error traps that a core met are just the one that its end tells, with its type, its place and its syndrome, and it came
+-- the error traps that a core met are just the one that its end names, with its type, its place and its syndrome, and it came
 -- with the core's last step and its last transfer
 pub record HasStopCause (c : ℕ) (trace : Trace) (r : CoreResult) (k : Core) : Type 0 where
-  pub met : k.progress.errors ≡ errors_told r.end r.steps (length (own_transfers c trace.transfers))
+  pub met : k.progress.errors ≡ errors_reported r.end r.steps (length (own_transfers c trace.transfers))
 
 abbrev pub StopCauseAt : Setup → Trace → ℕ → Type 0
 StopCauseAt setup trace c = IfSome (slice_get trace.cores c) (λ r. IfSome (slice_get (replay_of setup trace).cores c) (HasStopCause c trace r))
 
--- the registers that a core tells no value of are those of its window whose cells are bad at its end
+-- the registers that are reported without a value are those of its window whose cells are bad at its end
 pub record HasBlanks (r : CoreResult) (k : Core) : Type 0 where
   pub registers : map is_none r.regs ≡ blank_registers k.progress
 
 abbrev pub BlankAt : Setup → Trace → ℕ → Type 0
 BlankAt setup trace c = IfSome (slice_get trace.cores c) (λ r. IfSome (slice_get (replay_of setup trace).cores c) (HasBlanks r))
 
--- a watched word is told no value of exactly where it is bad at the end
+-- a watched word is reported without a value exactly where it is bad at the end
 abbrev pub WatchAt : Setup → Trace → ℕ → Type 0
 WatchAt setup trace i = IfSome (slice_get trace.watch i) (λ (word : Word2). is_none word.value ≡ is_bad_at (replay_of setup trace).words word.addr)
 

@@ -1,4 +1,4 @@
--- Traces that a report can tell: every number is in the range of its field, every field that no line shows is 0, and the bounds
+-- Traces that a report can show: every number is in the range of its field, every field that no line shows is 0, and the bounds
 -- of a report hold.
 use Rattle.std.specs.Prelude.{ℕ, ◌≡◌, ◌≤◌, ◌*◌, ◌^◌, ◌==◌, ◌&&◌, ◌||◌, nat_lt, nat_le, Bool, true, List, length, map, Option, Some, None}
 use Rattle.std.specs.List.{list_all, range_with_len}

@@ -1,4 +1,4 @@
--- Transfers whose fields are those that a line of a report can tell; fields that no line shows are 0.
+-- Transfers whose fields are those that a line of a report can show; fields that no line shows are 0.
 use Rattle.std.specs.Prelude.{ℕ, ◌-◌, ◌*◌, ◌%◌, ◌^◌, ◌==◌, ◌&&◌, ◌||◌, nat_lt, Bool, true, List, [], ◌∷◌}
 use Rattle.std.specs.List.{list_any}
 use Rattle.lf_model.specs.Names.{same_why}
@@ -35,7 +35,7 @@ causes_of Fix = whys.None ∷ []
 abbrev pub has_cause : Transfer → Bool
 has_cause t = list_any (same_why t.why) (causes_of t.kind)
 
--- a fill tells a way
+-- a fill shows a way
 abbrev pub way_fits : ℕ → TurnKind → Bool
 way_fits way Fetch = fits_byte way
 way_fits way Load = fits_byte way

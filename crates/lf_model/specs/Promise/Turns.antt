@@ -15,9 +15,9 @@ pub record Turn : Type 0 where
   pub master : ℕ
   pub scheduled : Bool
 
--- the turn that a transfer tells
-abbrev pub turn_told : Transfer → Turn
-turn_told t = record { master = t.master; scheduled = same_why t.why Sched }
+-- the turn that a transfer reports
+abbrev pub turn_reported : Transfer → Turn
+turn_reported t = record { master = t.master; scheduled = same_why t.why Sched }
 
 -- a core on its way: all its steps, the steps in which its stores retire, the steps that it made, the stores that it drained,
 -- and the transfers that it has yet to make
@@ -76,14 +76,14 @@ pub record Moved : Type 0 where
 abbrev pub turn_of : ℕ → Bool → Option Turn
 turn_of master scheduled = Some (record { master = master; scheduled = scheduled })
 
--- its next step, or the next drain behind its last one
+-- its next step, or the next drain after its last one
 abbrev pub core_moved : ℕ → CoreLeft → Moved
 core_moved n c = if has_ended c then record { core = c; turn = None }
     else if nat_lt c.made c.steps
     then record { core = with_step c; turn = if turns_in c.made c.transfers then turn_of n false else None }
     else record { core = with_turn c; turn = turn_of n false }
 
--- the drain of a waiting store, in its next step or behind its last one
+-- the drain of a waiting store, in its next step or after its last one
 abbrev pub drain_moved : ℕ → CoreLeft → Moved
 drain_moved n c = if has_ended c then record { core = c; turn = None }
     else if not (waits c) then record { core = c; turn = None }

@@ -5,7 +5,7 @@ use Rattle.lf_model.specs.declared.bus.Transfer.{Transfer}
 use Rattle.lf_model.specs.declared.flip.Flip.{Flip}
 use Rattle.lf_model.specs.declared.trace.Word2.{Word2}
 
--- behind some turns: the words, how many turns, and the transfers with what memory answered
+-- after some turns: the words, how many turns, and the transfers with what memory answered
 pub record Memory : Type 0 where
   pub words : List Word
   pub turns : ℕ

@@ -27,7 +27,7 @@ use Rattle.lf_model.specs.declared.trace.Word2.{Word2}
 
 -- ---- the log
 
--- what an entry and its transfer both tell: core, address and length
+-- what an entry and its transfer both say: core, address and length
 pub record Placed : Type 0 where
   pub core : ℕ
   pub kind : OpKind
@@ -72,7 +72,7 @@ has_length t = length_fits t t.kind
 abbrev pub no_arrays : ℕ → Option Arrays
 no_arrays core = None
 
--- log: its entries are those of the transfers that enter it, in order; text: none touches text; answered: each transfer tells
+-- log: its entries are those of the transfers that enter it, in order; text: none touches text; answered: each transfer has
 -- what memory showed at its turn; then AHBSTAT, masters and their shares, the fields of the transfers, and the fates of memory
 -- flips, those of cores being late, where these words are the ones that stops name
 pub record BusRecordOk (setup : Setup) (log : List Entry) (transfers : List Transfer) (status : AhbStatus) (fates : List Fate) (named : List Word2) : Type 0 where

@@ -3,7 +3,7 @@ use Rattle.std.specs.Prelude.{ℕ, ◌≡◌, ◌==◌, ◌<◌, true, List, [],
 use Rattle.std.specs.List.{list_all, zip}
 use Rattle.lf_model.specs.Course.Arrays.{Arrays}
 use Rattle.lf_model.specs.Course.Progress.{Completion, Progress}
-use Rattle.lf_model.specs.Ledger.CoreAccount.{core_by_course, core_as_told}
+use Rattle.lf_model.specs.Ledger.CoreAccount.{core_by_course, core_as_reported}
 use Rattle.lf_model.specs.Ledger.FlipFate.{flip_fates}
 use Rattle.lf_model.specs.Ledger.Steps.{HasSteps, own_transfers}
 use Rattle.lf_model.specs.Promise.Regular.{is_regular_core, is_regular_op}
@@ -21,12 +21,12 @@ use Rattle.lf_model.specs.declared.trace.Op.{Op}
 abbrev pub core_of_record : ℕ → CoreRecord → List Transfer → EndedCore
 core_of_record c kept transfers = record { core = c; result = kept.result; ops = kept.ops; transfers = transfers }
 
--- what a record tells of the completion of an operation
-abbrev pub completion_told : Op → ℕ → Completion
-completion_told o seen = record { step = o.step; way = if is_load o then Some o.way else None; seen = seen }
+-- what a record says of the completion of an operation
+abbrev pub completion_reported : Op → ℕ → Completion
+completion_reported o seen = record { step = o.step; way = if is_load o then Some o.way else None; seen = seen }
 
-abbrev pub completions_told : CoreRecord → List Completion
-completions_told kept = map (λ (o : Op × ℕ). completion_told o.0 o.1) (zip kept.ops kept.seen)
+abbrev pub completions_reported : CoreRecord → List Completion
+completions_reported kept = map (λ (o : Op × ℕ). completion_reported o.0 o.1) (zip kept.ops kept.seen)
 
 -- the arrays of core c alone are looked at
 abbrev pub of_core_alone : ℕ → Arrays → ℕ → Option Arrays
@@ -41,8 +41,8 @@ pub record RecordOk (setup : Setup) (c : ℕ) (kept : CoreRecord) (log : List En
   pub steps : HasSteps setup kept.result (own_transfers c transfers)
   pub seen : HasSeen (initial_byte setup.image) c kept.ops kept.seen log
   pub account : core_by_course (ground_of_ended setup (core_of_record c kept transfers)) (course_of_ended setup (core_of_record c kept transfers))
-      ≡ core_as_told c kept.result kept.ops transfers
-  pub completed : (course_of_ended setup (core_of_record c kept transfers)).completions ≡ completions_told kept
+      ≡ core_as_reported c kept.result kept.ops transfers
+  pub completed : (course_of_ended setup (core_of_record c kept transfers)).completions ≡ completions_reported kept
   pub turns : (turn : ℕ) → turn < length transfers → OwnTurnAt (ground_of_ended setup (core_of_record c kept transfers)) transfers turn
   pub core_fits : is_regular_core kept.result ≡ true
   pub ops_fit : list_all is_regular_op kept.ops ≡ true

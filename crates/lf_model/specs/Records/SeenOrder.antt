@@ -31,7 +31,7 @@ front log seen k = take (slice_index seen k) log
 abbrev pub waiting : ℕ → List Op → ℕ → List Entry → List Entry
 waiting c ops k seen_entries = map made (drop (count_by (is_entry_of c) seen_entries) (filter stores (take k ops)))
 
--- operation k, if it is a load, reads the entries seen with the waiting stores behind them
+-- operation k, if it is a load, reads the entries seen with the waiting stores after them
 abbrev pub LoadReads : (ℕ → ℕ) → ℕ → List Op → List ℕ → List Entry → ℕ → Type 0
 LoadReads initial c ops seen log k = IfSome (slice_get ops k) (λ o. is_load o ≡ true
     → Reads initial (made o) (front log seen k ++ waiting c ops k (front log seen k)))
@@ -48,7 +48,7 @@ SeenAreEarlier c seen log k = AllByRecursion (λ e. e.core ≡ c → e.k ≤ k) 
 abbrev pub AtomicIsSeen : ℕ → List ℕ → List Entry → ℕ → Type 0
 AtomicIsSeen c seen log p = IfSome (slice_get log p) (λ e. e.core ≡ c → kind_reads e.kind ≡ true → p < slice_index seen e.k)
 
--- a lost store comes behind all operations that reached memory
+-- a lost store comes after all operations that reached memory
 abbrev pub LostIsLast : List Op → Op → Type 0
 LostIsLast ops x = is_lost x ≡ true → AllByRecursion (λ o. enters o ≡ true → o.k < x.k) ops
 
