@@ -3,7 +3,7 @@ use Rattle.std.proofs.Common.{ℕ, ◌≡◌, ◌++◌, ◌&&◌, Bool, true, Li
 use Rattle.std.specs.Prelude.{◌==◌}
 use Rattle.std.specs.Option.{option_map_or}
 use Rattle.std.proofs.lemmas.Bool.{eqb-true, and_parts}
-use Rattle.lf_model.specs.Ledger.Account.{account_by_course, account_as_told}
+use Rattle.lf_model.specs.Ledger.Account.{account_by_course, account_as_reported}
 use Rattle.lf_model.specs.Ledger.Rule.{StepsAt, KeepsLedger}
 use Rattle.lf_model.specs.Ledger.Same.{same_transfer, same_account}
 use Rattle.lf_model.specs.Ledger.Steps.{HasSteps, own_transfers, in_steps, past_steps, ascends_from, is_last_drain, retiring_steps, is_halt, last_retires}
@@ -84,12 +84,12 @@ steps_at-sound setup trace c passes =
 
 abbrev pub keeps_ledger : Setup → Trace → Bool
 keeps_ledger setup trace = passes_below (steps_at setup trace) setup.config.cores
-    && same_account (account_by_course setup trace) (account_as_told trace)
+    && same_account (account_by_course setup trace) (account_as_reported trace)
 
 pub ledger : (setup : Setup) (trace : Trace) → keeps_ledger setup trace ≡ true → KeepsLedger setup trace
 ledger setup trace passes =
     let parts = and_parts (passes_below (steps_at setup trace) setup.config.cores) _ passes in
     record {
       steps = λ c within. steps_at-sound setup trace c (passes_at (steps_at setup trace) setup.config.cores parts.0 c within);
-      same = accounts (account_by_course setup trace) (account_as_told trace) parts.1;
+      same = accounts (account_by_course setup trace) (account_as_reported trace) parts.1;
     }

@@ -7,7 +7,7 @@ use Rattle.std.proofs.lemmas.Bool.{eqb-true, leb-true, and_parts, false≢true}
 use Rattle.lf_model.specs.Bus.Replay.{Core}
 use Rattle.lf_model.specs.Course.Progress.{ErrorTrap}
 use Rattle.lf_model.specs.Ledger.Account.{replay_of, is_bad_at}
-use Rattle.lf_model.specs.Ledger.CoreAccount.{blank_registers, errors_told}
+use Rattle.lf_model.specs.Ledger.CoreAccount.{blank_registers, errors_reported}
 use Rattle.lf_model.specs.Ledger.Same.{same_bool, same_error}
 use Rattle.lf_model.specs.Ledger.Steps.{own_transfers}
 use Rattle.lf_model.specs.Promise.Follows.{Follows, turns_of}
@@ -15,7 +15,7 @@ use Rattle.lf_model.specs.Promise.Headline.{Headline, HasStopCause, HasBlanks, S
 use Rattle.lf_model.specs.Promise.Played.{IsPlayedBy}
 use Rattle.lf_model.specs.Promise.Regular.{IsRegular, is_regular_core, is_regular_op, is_regular_word, steps_fit, turn_of}
 use Rattle.lf_model.specs.Promise.RegularTransfer.{fits_word, is_regular_transfer}
-use Rattle.lf_model.specs.Promise.Turns.{Turn, turn_told}
+use Rattle.lf_model.specs.Promise.Turns.{Turn, turn_reported}
 use Rattle.lf_model.specs.declared.setup.Event.{Event}
 use Rattle.lf_model.specs.declared.setup.Setup.{Setup}
 use Rattle.lf_model.specs.declared.trace.CoreResult.{CoreResult}
@@ -50,7 +50,7 @@ is_same_error a b passes =
 -- ---- causes of stops, and blanks
 
 abbrev met : ℕ → Trace → CoreResult → Core → Bool
-met c trace r k = same_list same_error k.progress.errors (errors_told r.end r.steps (length (own_transfers c trace.transfers)))
+met c trace r k = same_list same_error k.progress.errors (errors_reported r.end r.steps (length (own_transfers c trace.transfers)))
 
 met-sound : (c : ℕ) (trace : Trace) (r : CoreResult) (k : Core) → met c trace r k ≡ true → HasStopCause c trace r k
 met-sound c trace r k passes = record { met = is_same_list same_error is_same_error k.progress.errors _ passes }
@@ -119,7 +119,7 @@ is_same_turn a b passes = let parts = and_parts (a.master == b.master) _ passes 
     λ i. record { master = eqb-true a.master b.master parts.0 i; scheduled = is_same_bool a.scheduled b.scheduled parts.1 i }
 
 abbrev pub does_follow : Setup → List Event → Trace → Bool
-does_follow setup events trace = same_list same_turn (turns_of setup events trace) (map turn_told trace.transfers)
+does_follow setup events trace = same_list same_turn (turns_of setup events trace) (map turn_reported trace.transfers)
 
 pub follows : (setup : Setup) (events : List Event) (trace : Trace) → does_follow setup events trace ≡ true → Follows setup events trace
 follows setup events trace passes = record { turns = is_same_list same_turn is_same_turn (turns_of setup events trace) _ passes }
