@@ -1,4 +1,4 @@
--- A register with two turned bits that is never read is told without a value.
+-- A register with two turned bits that is never read is reported without a value.
 use Rattle.std.specs.Prelude.{◌≡◌, refl}
 use Rattle.lf_model.specs.Promise.Played.{IsPlayedBy}
 use Rattle.lf_model.specs.Report.{report}

@@ -15,7 +15,7 @@ use Rattle.lf_model.specs.Names.{kind_place, why_place, fate_place}
 use Rattle.lf_model.specs.declared.bus.Entry.{Entry}
 use Rattle.lf_model.specs.declared.bus.Transfer.{Transfer}
 
--- things that are told apart by a number of each
+-- things with different numbers
 pub differ : {A : Type 0} {a b : A} (f : A → ℕ) (x y : ℕ) → f a ≡ x → f b ≡ y → (x == y) ≡ false → a ≡ b → ⊥
 differ f x y ea eb other e = eqb-false x y other (sym ea ∙ ap f e ∙ eb)
 

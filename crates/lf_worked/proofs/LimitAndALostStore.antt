@@ -1,4 +1,4 @@
--- The last drains can stop a core: its store is lost, and so is the one behind it.
+-- The last drains can stop a core: its store is lost, and so is the one after it.
 use Rattle.std.specs.Prelude.{◌≡◌, refl}
 use Rattle.lf_model.specs.Promise.Played.{IsPlayedBy}
 use Rattle.lf_model.specs.Report.{report}

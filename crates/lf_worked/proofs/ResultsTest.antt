@@ -22,14 +22,14 @@ use Rattle.lf_worked.proofs.Tests.{implies, implied, holds_if_some, same_numbers
 abbrev is_value : ℕ → ℕ → Bool
 is_value expected value = value == expected
 
-abbrev is_told : ℕ → Option ℕ → Bool
-is_told expected told = option_map_or (is_value expected) told true
+abbrev is_reported : ℕ → Option ℕ → Bool
+is_reported expected reported = option_map_or (is_value expected) reported true
 
 abbrev shows_register : State → List (Option ℕ) → ℕ → Bool
-shows_register s regs n = option_map_or (is_told (register s n)) (slice_get regs n) true
+shows_register s regs n = option_map_or (is_reported (register s n)) (slice_get regs n) true
 
 shows_registers : (s : State) (regs : List (Option ℕ)) → passes_below (shows_register s regs) 32 ≡ true → ShowsRegisters s regs
-shows_registers s regs passes n within = holds_if_some (is_told (register s n)) (λ told. IfSome told (λ value. value ≡ register s n))
+shows_registers s regs passes n within = holds_if_some (is_reported (register s n)) (λ reported. IfSome reported (λ value. value ≡ register s n))
     (holds_if_some (is_value (register s n)) (λ value. value ≡ register s n) (λ value. eqb-true value (register s n)))
     (slice_get regs n) (passes_at (shows_register s regs) 32 passes n within)
 

@@ -91,7 +91,7 @@ turn_of_a_stop_refused : KeepsLedger stop_at_load_setup turn_of_a_stop → ⊥
 unfolding machine stop_at_load_setup turn_of_a_stop
 turn_of_a_stop_refused h = differ (error_place 0) 1 0 refl refl refl h.same
 
--- a load's bad word told as that of a fetch
+-- a load's bad word reported as that of a fetch
 unfoldable type_of_a_stop : Trace
 unfolding stop_at_load_trace
 type_of_a_stop = with_core 0 (λ r. record r { end = Stop 0x01 1 0x05 }) stop_at_load_trace
@@ -104,7 +104,7 @@ type_of_a_stop_refused : KeepsLedger stop_at_load_setup type_of_a_stop → ⊥
 unfolding machine stop_at_load_setup type_of_a_stop
 type_of_a_stop_refused h = differ (error_type 0) 0x09 0x01 refl refl refl h.same
 
--- a lost store told as one that reached memory
+-- a lost store reported as one that reached memory
 unfoldable lost_told_as_stored : Trace
 unfolding lost_byte_store_trace
 lost_told_as_stored = with_operation 2 (store 0 1 6 0x40001000 1 0x77) lost_byte_store_trace
@@ -117,7 +117,7 @@ lost_told_as_stored_refused : KeepsLedger lost_byte_store_setup lost_told_as_sto
 unfolding machine lost_byte_store_setup lost_told_as_stored
 lost_told_as_stored_refused h = differ (lost_count 0) 1 0 refl refl refl h.same
 
--- a store that reached memory told as lost
+-- a store that reached memory reported as lost
 unfoldable stored_told_as_lost : Trace
 unfolding store_buffering_trace
 stored_told_as_lost = with_operation 4 (lost 0 1 7 0x40001000 4 0x00000001) store_buffering_trace

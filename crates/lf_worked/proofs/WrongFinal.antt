@@ -29,7 +29,7 @@ failing_address_refused : KeepsLedger corrected_load_setup failing_address â†’ â
 unfolding machine corrected_load_setup failing_address
 failing_address_refused h = differ (ahb_address) 0x40001000 0x40001004 refl refl refl h.same
 
--- a corrected word told as not corrected
+-- a corrected word reported as not corrected
 unfoldable not_corrected : Trace
 unfolding corrected_load_trace
 not_corrected = record corrected_load_trace { ahb_status = 0x00000102 }
@@ -68,7 +68,7 @@ size_of_a_line_refused : KeepsLedger half_store_by_core_one_setup size_of_a_line
 unfolding machine half_store_by_core_one_setup size_of_a_line
 size_of_a_line_refused h = differ (ahb_status) 0x389 0x38A refl refl refl h.same
 
--- a write told as a read
+-- a write reported as a read
 unfoldable no_write : Trace
 unfolding lost_byte_store_trace
 no_write = record lost_byte_store_trace { ahb_status = 0x00000100 }

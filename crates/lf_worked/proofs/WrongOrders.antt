@@ -128,7 +128,7 @@ core_left_out_refused : IsExecution byte_out_setup core_left_out → ⊥
 unfolding machine byte_out_setup core_left_out
 core_left_out_refused h = apart 0 1 refl h.once_final.cores_told
 
--- LoadOp: a load behind one that the program makes after it
+-- LoadOp: a load after one that the program makes after it
 unfoldable loads_out_of_order : Trace
 unfolding three_lines_in_two_ways_trace
 loads_out_of_order = with_operation 1 (load 0 0 3 0x40001000 4 0x00000001 0) (with_operation 0 (load 0 1 5 0x40001100 4 0x00000002 1) three_lines_in_two_ways_trace)
@@ -141,7 +141,7 @@ loads_out_of_order_refused : IsExecution three_lines_in_two_ways_setup loads_out
 unfolding machine three_lines_in_two_ways_setup loads_out_of_order
 loads_out_of_order_refused h = not_at_most 1 0 refl ((h.load_op 1 (lt 1 6 refl) refl).0 refl)
 
--- StoreStore: a store behind one that the program makes after it
+-- StoreStore: a store after one that the program makes after it
 unfoldable stores_out_of_order : Trace
 unfolding stbar_drains_trace
 stores_out_of_order = with_operation 1 (store 0 0 2 0x40001000 4 0x40001000) (with_operation 0 (store 0 1 3 0x40001004 4 0x40001000) stbar_drains_trace)

@@ -1,4 +1,4 @@
--- Wrong reports that the ledger refuses at a place of the order: entries of the log, steps, ways, and where loads stand.
+-- Wrong reports that the ledger refuses at a place of the order: entries of the log, steps, ways, and where loads come.
 use Rattle.std.specs.Prelude.{◌≡◌, refl, ◌∷◌, []}
 use Rattle.lf_model.specs.Ledger.Rule.{KeepsLedger}
 use Rattle.lf_model.specs.Report.{report}
@@ -28,7 +28,7 @@ stores_exchanged_refused : KeepsLedger store_buffering_setup stores_exchanged �
 unfolding machine store_buffering_setup stores_exchanged
 stores_exchanged_refused h = differ (entry_core 4) 1 2 refl refl refl h.same
 
--- a load that stands behind an entry that its core had not seen
+-- a load that comes after an entry that its core had not seen
 unfoldable load_behind_a_store : Trace
 unfolding store_buffering_trace
 load_behind_a_store = record store_buffering_trace {
@@ -62,7 +62,7 @@ loads_exchanged_refused : KeepsLedger store_buffering_setup loads_exchanged → 
 unfolding machine store_buffering_setup loads_exchanged
 loads_exchanged_refused h = differ (is_sorted 2) 1 0 refl refl refl h.same
 
--- a lost store that does not stand last
+-- a lost store that does not come last
 unfoldable lost_before_a_load : Trace
 unfolding lost_byte_store_trace
 lost_before_a_load = with_operation 2 (load 0 2 7 0x40001000 1 0x77 0) (with_operation 1 (lost 0 1 6 0x40001000 1 0x77) lost_byte_store_trace)
@@ -88,7 +88,7 @@ lost_exchanged_refused : KeepsLedger lost_stores_of_two_cores_setup lost_exchang
 unfolding machine lost_stores_of_two_cores_setup lost_exchanged
 lost_exchanged_refused h = differ (is_sorted 1) 1 0 refl refl refl h.same
 
--- a load told in the step of its fill
+-- a load reported in the step of its fill
 unfoldable step_of_a_load : Trace
 unfolding corrected_load_trace
 step_of_a_load = with_operation 0 (load 0 0 3 0x40001000 4 0x0000005A 0) corrected_load_trace
@@ -101,7 +101,7 @@ step_of_a_load_refused : KeepsLedger corrected_load_setup step_of_a_load → ⊥
 unfolding machine corrected_load_setup step_of_a_load
 step_of_a_load_refused h = differ (retired_in 0) 4 3 refl refl refl h.same
 
--- a store told in the step of its drain
+-- a store reported in the step of its drain
 unfoldable step_of_a_store : Trace
 unfolding own_store_updates_trace
 step_of_a_store = with_operation 2 (store 0 1 7 0x40001001 1 0x77) own_store_updates_trace
@@ -114,7 +114,7 @@ step_of_a_store_refused : KeepsLedger own_store_updates_setup step_of_a_store �
 unfolding machine own_store_updates_setup step_of_a_store
 step_of_a_store_refused h = differ (retired_in 2) 5 7 refl refl refl h.same
 
--- an atomic told in the step of the drain before it
+-- an atomic reported in the step of the drain before it
 unfoldable step_of_an_atomic : Trace
 unfolding atomic_drains_trace
 step_of_an_atomic = with_operation 1 (atomic 0 1 3 0x40001000 1 0x40 0xFF) atomic_drains_trace

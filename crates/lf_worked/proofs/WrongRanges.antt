@@ -1,4 +1,4 @@
--- Traces that no report can tell, or that tell more than a report shows: fields out of their ranges, and fields that no line
+-- Traces that no report can show, or that have more than a report shows: fields out of their ranges, and fields that no line
 -- shows and that are not 0.
 use Rattle.std.specs.Prelude.{◌≡◌, refl, Some}
 use Rattle.std.proofs.lemmas.Bool.{false≢true}

@@ -82,7 +82,7 @@ y_register_refused : HasResults unsigned_quotient_setup y_register → ⊥
 unfolding machine unsigned_quotient_setup y_register
 y_register_refused h = apart 0 1 refl (h.cores 0 (lt 0 1 refl)).y
 
--- PC behind the load that was stopped
+-- PC after the load that was stopped
 unfoldable pc : Trace
 unfolding stop_at_load_trace
 pc = with_core 0 (λ r. record r { pc = 0x4000000C; npc = 0x40000010 }) stop_at_load_trace
@@ -121,7 +121,7 @@ register_refused : HasResults byte_out_setup register → ⊥
 unfolding machine byte_out_setup register
 register_refused h = apart 0x80090000 0x80000000 refl ((h.cores 0 (lt 0 1 refl)).registers 1 (lt 1 32 refl))
 
--- the register of a load that was stopped, told as written
+-- the register of a load that was stopped, reported as written
 unfoldable written_before_a_stop : Trace
 unfolding stop_at_load_trace
 written_before_a_stop = with_core 0 (λ r. record r { regs = at 8 (Some 0x0000005A) r.regs }) stop_at_load_trace
@@ -147,7 +147,7 @@ other_trap_refused : HasResults byte_out_setup other_trap → ⊥
 unfolding machine byte_out_setup other_trap
 other_trap_refused h = differ if_some 0x81 0x7A refl refl refl (h.cores 0 (lt 0 1 refl)).halt
 
--- a limit told of a core that halted
+-- a limit reported of a core that halted
 unfoldable limit_for_a_halt : Trace
 unfolding five_steps_trace
 limit_for_a_halt = with_core 0 (λ r. record r { end = Limit }) five_steps_trace

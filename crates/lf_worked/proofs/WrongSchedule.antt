@@ -33,7 +33,7 @@ drains_unasked : Follows drain_by_schedule_setup (steps_of 0 6 ∷ []) drain_by_
 unfolding machine drain_by_schedule_setup drain_by_schedule_trace
 drains_unasked h = differ (scheduled_at 1) 0 1 refl refl refl h.turns
 
--- the schedule asks for a drain, which is told by another cause
+-- the schedule asks for a drain, which is reported by another cause
 drain_asked : Follows snooped_line_setup (steps_of 1 8 ∷ steps_of 0 8 ∷ drains_of 0 1 ∷ steps_of 0 1 ∷ []) snooped_line_trace → ⊥
 unfolding machine snooped_line_setup snooped_line_trace
 drain_asked h = differ (scheduled_at 6) 1 0 refl refl refl h.turns
@@ -53,7 +53,7 @@ cores_exchanged : Follows three_cores_swap_setup (steps_of 1 4 ∷ steps_of 0 2 
 unfolding machine three_cores_swap_setup three_cores_swap_trace
 cores_exchanged h = differ (master_at 0) 1 2 refl refl refl h.turns
 
--- a drain at the end of a window told as one by the schedule: it keeps the ledger, as the schedule may have asked for it
+-- a drain at the end of a window reported as one by the schedule: it keeps the ledger, as the schedule may have asked for it
 unfoldable window_as_scheduled : Trace
 unfolding snooped_line_trace
 window_as_scheduled = with_transfer 6 (transfer 6 0 8 kinds.Store whys.Sched 0x40001000 0 0 0) snooped_line_trace

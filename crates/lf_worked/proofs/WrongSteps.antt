@@ -1,4 +1,4 @@
--- Wrong reports that the steps of a core and its transfers refuse: each transfer in a step of its own, the last drains behind
+-- Wrong reports that the steps of a core and its transfers refuse: each transfer in a step of its own, the last drains after
 -- all steps, and as many steps that retire an instruction as were counted.
 use Rattle.std.specs.Prelude.{◌≡◌, refl, ◌∷◌, []}
 use Rattle.std.proofs.lemmas.Bool.{false≢true}
@@ -17,7 +17,7 @@ use Rattle.lf_worked.specs.LimitWithLastDrains.{limit_with_last_drains_setup, li
 use Rattle.lf_worked.specs.OwnStoreUpdates.{own_store_updates_setup, own_store_updates_trace, own_store_updates_lines}
 use Rattle.lf_worked.specs.ThreeSteps.{three_steps_setup, three_steps_trace, three_steps_lines}
 
--- two transfers told in one step
+-- two transfers reported in one step
 unfoldable two_in_one_step : Trace
 unfolding corrected_load_trace
 two_in_one_step = with_transfer 1 (transfer 1 0 0 kinds.Load whys.Absent 0x40001000 0 8 0x4F00000000000000) corrected_load_trace
@@ -47,7 +47,7 @@ fill_nobody_made_refused : KeepsLedger three_steps_setup fill_nobody_made → �
 unfolding machine three_steps_setup fill_nobody_made
 fill_nobody_made_refused h = apart 1 2 refl (h.steps 0 (lt 0 1 refl)).retired
 
--- a last drain told by another cause than `end`
+-- a last drain reported by another cause than `end`
 unfoldable last_drain_by_window : Trace
 unfolding limit_with_last_drains_trace
 last_drain_by_window = with_transfer 1 (transfer 1 0 4 kinds.Store whys.Window 0x40001000 0 0 0) limit_with_last_drains_trace
@@ -86,7 +86,7 @@ halts_in_a_drain_refused : KeepsLedger own_store_updates_setup halts_in_a_drain 
 unfolding machine own_store_updates_setup halts_in_a_drain
 halts_in_a_drain_refused h = false≢true (h.steps 0 (lt 0 1 refl)).halting
 
--- a last drain told before the first step's fill
+-- a last drain reported before the first step's fill
 unfoldable drains_out_of_order : Trace
 unfolding limit_with_last_drains_trace
 drains_out_of_order = with_transfer 1 (transfer 1 0 0 kinds.Fetch whys.Absent 0x40000000 0 8 0x0000000000000000) (with_transfer 0 (transfer 0 0 4 kinds.Store whys.End 0x40001000 0 0 0) limit_with_last_drains_trace)

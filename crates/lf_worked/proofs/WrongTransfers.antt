@@ -22,7 +22,7 @@ use Rattle.lf_worked.specs.StruckTag.{struck_tag_setup, struck_tag_trace, struck
 use Rattle.lf_worked.specs.ThreeLinesInTwoWays.{three_lines_in_two_ways_setup, three_lines_in_two_ways_trace, three_lines_in_two_ways_lines}
 use Rattle.lf_worked.specs.Window.{window_setup, window_trace, window_lines}
 
--- a drain before error mode told by FLUSH
+-- a drain before error mode reported by FLUSH
 unfoldable drain_by_flush : Trace
 unfolding lost_byte_store_trace
 drain_by_flush = with_transfer 2 (transfer 2 0 9 kinds.Store whys.Flush 0x40001000 0 1 0x0500000000000000) lost_byte_store_trace
@@ -74,7 +74,7 @@ miss_by_word_refused : KeepsLedger struck_line_setup miss_by_word → ⊥
 unfolding machine struck_line_setup miss_by_word
 miss_by_word_refused h = differ (cause_needed 2) 5 3 refl refl refl h.same
 
--- a drain of a full buffer told by another cause
+-- a drain of a full buffer reported by another cause
 unfoldable full_told_as_miss : Trace
 unfolding full_buffer_trace
 full_told_as_miss = with_transfer 1 (transfer 1 0 4 kinds.Store whys.Miss 0x40001000 0 0 0) full_buffer_trace

@@ -19,7 +19,7 @@ use Rattle.lf_worked.specs.OverwrittenBeforeItIsRead.{overwritten_before_it_is_r
 use Rattle.lf_worked.specs.StopAtLoad.{stop_at_load_setup, stop_at_load_trace, stop_at_load_lines}
 use Rattle.lf_worked.specs.ThreeSteps.{three_steps_setup, three_steps_trace, three_steps_lines}
 
--- Steps tied to no instruction: the fill is told two steps late, so that the flips of step 4 come behind the write of %g2, and its
+-- Steps tied to no instruction: the fill is reported two steps late, so that the flips of step 4 come after the write of %g2, and its
 -- read stops the core.
 unfoldable steps_of_other_instructions : Trace
 unfolding overwritten_before_it_is_read_trace

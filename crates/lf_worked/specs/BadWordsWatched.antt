@@ -1,5 +1,5 @@
 -- Watched words: one with two turned bits, and one that the scrubber corrected.
--- Checked: the first is told without a value, and its flips are dormant, as no trap met it; the second is repaired; the note of the
+-- Checked: the first is reported without a value, and its flips are dormant, as no trap met it; the second is repaired; the note of the
 -- first stays.
 use Prim.Native.String.{String}
 use Rattle.std.specs.Prelude.{ℕ, ◌∷◌, [], List, Some, None}

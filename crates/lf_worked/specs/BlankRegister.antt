@@ -1,4 +1,4 @@
--- A register with two turned bits that is never read is told without a value.
+-- A register with two turned bits that is never read is reported without a value.
 -- Checked: no stop; both flips are dormant; only %g5 is blank.
 use Prim.Native.String.{String}
 use Rattle.std.specs.Prelude.{ℕ, ◌∷◌, [], List}

@@ -1,5 +1,5 @@
 -- A load of a byte that is 0.
--- Checked: the order tells two digits, 00.
+-- Checked: the order shows two digits, 00.
 use Prim.Native.String.{String}
 use Rattle.std.specs.Prelude.{ℕ, ◌∷◌, [], List}
 use Rattle.lf_worked.specs.Rows.{range, code_at, data_at, plain, known, transfer, load, parity, text_lines}

@@ -1,5 +1,5 @@
 -- A core stops at cell 2 after an atomic in turn 2, which retires.
--- The place of a stop by 20 is a cell, and no transfer. Checked: SWAP is counted (3 instructions) and is told; the stop comes in
+-- The place of a stop by 20 is a cell, and no transfer. Checked: SWAP is counted (3 instructions) and is reported; the stop comes in
 -- step 5, at the read of %g2.
 use Prim.Native.String.{String}
 use Rattle.std.specs.Prelude.{ℕ, ◌∷◌, [], List}

@@ -1,7 +1,7 @@
 -- What becomes of flips of register cells.
 -- Checked: %g1 and %g4 are struck in the step that writes them without a read (overwritten); %g2 is read (repaired); one bit of
 -- %g5 turns twice and reads clean (dormant), and takes no third flip (declined); cell 0 is never used; step 6 never comes; %o1
--- has two turned bits at the end and is told without a value.
+-- has two turned bits at the end and is reported without a value.
 use Prim.Native.String.{String}
 use Rattle.std.specs.Prelude.{ℕ, ◌∷◌, [], List}
 use Rattle.lf_worked.specs.Rows.{range, code_at, plain, known_but, transfer, parity, text_lines}

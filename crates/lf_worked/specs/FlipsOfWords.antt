@@ -1,7 +1,7 @@
 -- What becomes of flips of memory words.
 -- Turn 1 strikes the first word and loads it; turn 2 stores a byte into it; turn 3 strikes the second word, which SWAP reads and
 -- writes, and the third, twice. Checked: a part store and an atomic write back what they corrected (repaired); the third word
--- takes two flips (dormant) and declines a third; turn 4 never comes; the third word is told without a value.
+-- takes two flips (dormant) and declines a third; turn 4 never comes; the third word is reported without a value.
 use Prim.Native.String.{String}
 use Rattle.std.specs.Prelude.{ℕ, ◌∷◌, [], List, Some, None}
 use Rattle.lf_worked.specs.Rows.{range, code_at, data_at, plain, known, transfer, load, store, atomic, word, parity, text_lines}

@@ -1,6 +1,6 @@
--- The last drains can stop a core: its store is lost, and so is the one behind it.
+-- The last drains can stop a core: its store is lost, and so is the one after it.
 -- Checked: `stop 2B` with 4 steps; both stores are X, by their numbers; 6F is 4F xor 20, the columns of bit 0 and check bit 5 (bit
--- 37); the watched word is told without a value.
+-- 37); the watched word is reported without a value.
 use Prim.Native.String.{String}
 use Rattle.std.specs.Prelude.{ℕ, ◌∷◌, [], List, Some, None}
 use Rattle.lf_worked.specs.Rows.{range, code_at, data_at, plain, known, transfer, lost, word, parity, text_lines}

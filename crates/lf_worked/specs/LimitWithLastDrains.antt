@@ -1,5 +1,5 @@
 -- At its limit a core still drains the stores that wait.
--- Checked: both drains tell step 4, the limit, which is no step of the core; %g1 was struck in step 3 and read there; a flip of
+-- Checked: both drains show step 4, the limit, which is no step of the core; %g1 was struck in step 3 and read there; a flip of
 -- turn 3 never comes.
 use Prim.Native.String.{String}
 use Rattle.std.specs.Prelude.{ℕ, ◌∷◌, [], List}

@@ -1,5 +1,5 @@
 -- Loads of a byte, a half, a word and a doubleword, signed and not.
--- The word is 8001FF02. Checked: LDSB and LDSH extend the sign in the register, and the order tells the bytes read alone; LDD
+-- The word is 8001FF02. Checked: LDSB and LDSH extend the sign in the register, and the order shows the bytes read alone; LDD
 -- reads two words in one load, into %o4 and %o5.
 use Prim.Native.String.{String}
 use Rattle.std.specs.Prelude.{ℕ, ◌∷◌, [], List}

@@ -1,6 +1,6 @@
 -- A byte store whose word has two turned bits is lost, and stops the core by 2B.
 -- `ldub` reads the byte 77 from the data cache, which the store updated, while the store waits. `ta 0` drains it first (cause
--- `end`), and its word is bad by the flips of turn 2. Checked: the store is an X behind all others; step 9 drains, so 10
+-- `end`), and its word is bad by the flips of turn 2. Checked: the store is an X after all others; step 9 drains, so 10
 -- steps, and 7 instructions are retired; AHBSTAT is 180: a write of a byte (HSIZE 0), not corrected.
 use Prim.Native.String.{String}
 use Rattle.std.specs.Prelude.{ℕ, ◌∷◌, [], List}

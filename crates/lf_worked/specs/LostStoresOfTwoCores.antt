@@ -1,5 +1,5 @@
 -- Two cores lose stores to one bad word.
--- Each drains a byte store before STBAR, meets the same word and loses the store behind it too. Checked: the X stand last, by core
+-- Each drains a byte store before STBAR, meets the same word and loses the store after it too. Checked: the X come last, by core
 -- and then by number; the flips are stopped; the note of AHBSTAT is that of core 0, which came first.
 use Prim.Native.String.{String}
 use Rattle.std.specs.Prelude.{ℕ, ◌∷◌, [], List}

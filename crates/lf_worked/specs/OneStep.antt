@@ -1,5 +1,5 @@
 -- A limit of one step: nothing but a fill.
--- Checked: no instruction is counted, PC is still the entry, and the fill nobody uses is told.
+-- Checked: no instruction is counted, PC is still the entry, and the fill nobody uses is reported.
 use Prim.Native.String.{String}
 use Rattle.std.specs.Prelude.{ℕ, ◌∷◌, [], List}
 use Rattle.lf_worked.specs.Rows.{range, code_at, plain, known, transfer, parity, text_lines}

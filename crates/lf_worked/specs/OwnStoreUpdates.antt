@@ -1,5 +1,5 @@
 -- A byte store updates the resident line while it waits.
--- Checked: the load in step 6 hits and reads 11773344 before the store's transfer in step 7, and stands before it in the
+-- Checked: the load in step 6 hits and reads 11773344 before the store's transfer in step 7, and comes before it in the
 -- order; the transfer of a byte reads one word, with syndrome 00.
 use Prim.Native.String.{String}
 use Rattle.std.specs.Prelude.{ℕ, ◌∷◌, [], List}

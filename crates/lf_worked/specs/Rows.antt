@@ -72,11 +72,11 @@ scrubs count = record { actor = actors.Scrub; core = 0; count = count }
 
 -- ---- reports
 
--- registers that are all told
+-- registers that are all reported
 abbrev pub known : List ℕ → List (Option ℕ)
 known values = map Some values
 
--- registers of which these are told without a value
+-- registers of which these are reported without a value
 abbrev pub known_but : (blank : List ℕ) → List ℕ → List (Option ℕ)
 known_but blank values = map (λ n. if list_any (λ m. m == n) blank then None else Some (slice_index values n)) (range_with_len 0 (length values))
 

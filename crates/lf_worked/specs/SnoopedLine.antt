@@ -1,6 +1,6 @@
 -- A line that another core stored to is dropped at the next turn, here a snoop.
 -- After two local steps each core needs a turn (window 2). Core 1 loads, core 0 stores and drains (cause `window`, step 8), core
--- 1 snoops at turn 8. Checked: its second load misses by `absent` and reads the new word; it stands behind the store.
+-- 1 snoops at turn 8. Checked: its second load misses by `absent` and reads the new word; it comes after the store.
 use Prim.Native.String.{String}
 use Rattle.std.specs.Prelude.{ℕ, ◌∷◌, [], List}
 use Rattle.lf_worked.specs.Rows.{range, code_at, data_at, plain, steps_of, known, transfer, load, store, parity, text_lines}

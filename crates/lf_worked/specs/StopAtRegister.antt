@@ -1,6 +1,6 @@
 -- A register with two turned bits stops the core that reads it, by 20.
 -- Step 2 strikes cell 1 (%g1) and makes the second instruction, which does not read it; step 3 does. Checked: place is the
--- cell, 1, and 05 the columns of bits 0 and 1; %g1 is told without a value; nothing is put out.
+-- cell, 1, and 05 the columns of bits 0 and 1; %g1 is reported without a value; nothing is put out.
 use Prim.Native.String.{String}
 use Rattle.std.specs.Prelude.{ℕ, ◌∷◌, [], List}
 use Rattle.lf_worked.specs.Rows.{range, code_at, plain, known_but, transfer, parity, text_lines}

@@ -1,5 +1,5 @@
 -- SWAP of a word with two turned bits stops the core by 09.
--- Checked: nothing is written and no operation is told; 0F is 57 xor 58; AHBSTAT is 102, HSIZE 2 for SWAP.
+-- Checked: nothing is written and no operation is reported; 0F is 57 xor 58; AHBSTAT is 102, HSIZE 2 for SWAP.
 use Prim.Native.String.{String}
 use Rattle.std.specs.Prelude.{ℕ, ◌∷◌, [], List}
 use Rattle.lf_worked.specs.Rows.{range, code_at, data_at, plain, known, transfer, parity, text_lines}

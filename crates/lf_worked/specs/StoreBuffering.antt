@@ -1,6 +1,6 @@
 -- Two cores each store to one word and then load the other's: both read 0.
 -- Core 0 stores to 40001000 and reads 40001020, core 1 the other way round; both lines were loaded before. Checked: the stores
--- wait until the end (cause `end`), so the last loads stand before both stores in the order; loads at one place stand by
+-- wait until the end (cause `end`), so the last loads come before both stores in the order; loads at one place are sorted by
 -- core, then by number.
 use Prim.Native.String.{String}
 use Rattle.std.specs.Prelude.{ℕ, ◌∷◌, [], List}
