@@ -1,0 +1,15 @@
+-- A core stops at cell 2 after an atomic in turn 2, which retires.
+use Rattle.std.specs.Prelude.{◌≡◌, refl}
+use Rattle.lf_model.specs.Promise.Played.{IsPlayedBy}
+use Rattle.lf_model.specs.Report.{report}
+use Rattle.lf_worked.specs.Machine.{machine}
+use Rattle.lf_worked.specs.CellOfTheNumberOfATurn.{cell_of_the_number_of_a_turn_setup, cell_of_the_number_of_a_turn_events, cell_of_the_number_of_a_turn_trace, cell_of_the_number_of_a_turn_text}
+use Rattle.lf_worked.proofs.PromiseTest.{played}
+
+cell_of_the_number_of_a_turn_report : report cell_of_the_number_of_a_turn_trace ≡ cell_of_the_number_of_a_turn_text
+unfolding machine cell_of_the_number_of_a_turn_trace cell_of_the_number_of_a_turn_text
+cell_of_the_number_of_a_turn_report = refl
+
+cell_of_the_number_of_a_turn_played : IsPlayedBy cell_of_the_number_of_a_turn_setup cell_of_the_number_of_a_turn_events cell_of_the_number_of_a_turn_trace
+unfolding machine cell_of_the_number_of_a_turn_setup cell_of_the_number_of_a_turn_events cell_of_the_number_of_a_turn_trace
+cell_of_the_number_of_a_turn_played = played cell_of_the_number_of_a_turn_setup cell_of_the_number_of_a_turn_events cell_of_the_number_of_a_turn_trace refl

@@ -1,0 +1,15 @@
+-- Two flips of a register in the step that writes it: nothing is stopped.
+use Rattle.std.specs.Prelude.{◌≡◌, refl}
+use Rattle.lf_model.specs.Promise.Played.{IsPlayedBy}
+use Rattle.lf_model.specs.Report.{report}
+use Rattle.lf_worked.specs.Machine.{machine}
+use Rattle.lf_worked.specs.OverwrittenBeforeItIsRead.{overwritten_before_it_is_read_setup, overwritten_before_it_is_read_events, overwritten_before_it_is_read_trace, overwritten_before_it_is_read_text}
+use Rattle.lf_worked.proofs.PromiseTest.{played}
+
+overwritten_before_it_is_read_report : report overwritten_before_it_is_read_trace ≡ overwritten_before_it_is_read_text
+unfolding machine overwritten_before_it_is_read_trace overwritten_before_it_is_read_text
+overwritten_before_it_is_read_report = refl
+
+overwritten_before_it_is_read_played : IsPlayedBy overwritten_before_it_is_read_setup overwritten_before_it_is_read_events overwritten_before_it_is_read_trace
+unfolding machine overwritten_before_it_is_read_setup overwritten_before_it_is_read_events overwritten_before_it_is_read_trace
+overwritten_before_it_is_read_played = played overwritten_before_it_is_read_setup overwritten_before_it_is_read_events overwritten_before_it_is_read_trace refl

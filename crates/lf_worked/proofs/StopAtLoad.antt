@@ -1,0 +1,15 @@
+-- A load of a word with two turned bits stops the core by 09.
+use Rattle.std.specs.Prelude.{◌≡◌, refl}
+use Rattle.lf_model.specs.Promise.Played.{IsPlayedBy}
+use Rattle.lf_model.specs.Report.{report}
+use Rattle.lf_worked.specs.Machine.{machine}
+use Rattle.lf_worked.specs.StopAtLoad.{stop_at_load_setup, stop_at_load_events, stop_at_load_trace, stop_at_load_text}
+use Rattle.lf_worked.proofs.PromiseTest.{played}
+
+stop_at_load_report : report stop_at_load_trace ≡ stop_at_load_text
+unfolding machine stop_at_load_trace stop_at_load_text
+stop_at_load_report = refl
+
+stop_at_load_played : IsPlayedBy stop_at_load_setup stop_at_load_events stop_at_load_trace
+unfolding machine stop_at_load_setup stop_at_load_events stop_at_load_trace
+stop_at_load_played = played stop_at_load_setup stop_at_load_events stop_at_load_trace refl

@@ -1,0 +1,15 @@
+-- A waiting store drains before a fill, and a struck tag asks for the fill again.
+use Rattle.std.specs.Prelude.{◌≡◌, refl}
+use Rattle.lf_model.specs.Promise.Played.{IsPlayedBy}
+use Rattle.lf_model.specs.Report.{report}
+use Rattle.lf_worked.specs.Machine.{machine}
+use Rattle.lf_worked.specs.StruckTagAndWaitingStore.{struck_tag_and_waiting_store_setup, struck_tag_and_waiting_store_events, struck_tag_and_waiting_store_trace, struck_tag_and_waiting_store_text}
+use Rattle.lf_worked.proofs.PromiseTest.{played}
+
+struck_tag_and_waiting_store_report : report struck_tag_and_waiting_store_trace ≡ struck_tag_and_waiting_store_text
+unfolding machine struck_tag_and_waiting_store_trace struck_tag_and_waiting_store_text
+struck_tag_and_waiting_store_report = refl
+
+struck_tag_and_waiting_store_played : IsPlayedBy struck_tag_and_waiting_store_setup struck_tag_and_waiting_store_events struck_tag_and_waiting_store_trace
+unfolding machine struck_tag_and_waiting_store_setup struck_tag_and_waiting_store_events struck_tag_and_waiting_store_trace
+struck_tag_and_waiting_store_played = played struck_tag_and_waiting_store_setup struck_tag_and_waiting_store_events struck_tag_and_waiting_store_trace refl

@@ -1,0 +1,84 @@
+-- A byte is put out, and the core halts.
+-- A word stored to the output word 80000100 is no memory operation, so the order is empty and nothing drains. `ta 0` with
+-- traps disabled halts by 80. Checked: step 0 fills the line of the five words, steps 1 to 4 hit and make an instruction each.
+use Prim.Native.String.{String}
+use Rattle.std.specs.Prelude.{ℕ, ◌∷◌, [], List}
+use Rattle.lf_worked.specs.Rows.{range, code_at, plain, known, transfer, parity, text_lines}
+use Rattle.lf_model.specs.declared.setup.Setup.{Setup}
+use Rattle.lf_model.specs.declared.setup.Event.{Event}
+use Rattle.lf_model.specs.declared.trace.Trace.{Trace}
+use Rattle.lf_model.specs.declared.trace.CoreEnd.TheVariants.{Halt}
+use Rattle.lf_model.specs.declared.bus.TurnKind.TheVariants as kinds
+use Rattle.lf_model.specs.declared.bus.Why.TheVariants as whys
+
+unfoldable pub byte_out_setup : Setup
+byte_out_setup = record {
+  image = record {
+    entry = 0x40000000;
+    segments = code_at 0x40000000 (
+        0x03200000  -- sethi %hi(0x80000000), %g1
+        ∷ 0x90102041  -- or %g0, 0x41, %o0
+        ∷ 0xD0206100  -- st %o0, [%g1 + 0x100]
+        ∷ 0x91D02000  -- ta 0x0
+        ∷ 0x01000000  -- nop
+        ∷ []) ∷ [];
+    text = range 0x40000000 20 ∷ [];
+  };
+  config = plain;
+  flips = [];
+}
+
+unfoldable pub byte_out_events : List Event
+byte_out_events = []
+
+unfoldable pub byte_out_trace : Trace
+byte_out_trace = record {
+  cores = record {
+    end = Halt 0x80;
+    n = 4;
+    steps = 5;
+    out = 0x41 ∷ [];
+    regs = known (
+        0x00000000 ∷ 0x80000000 ∷ 0x00000000 ∷ 0x00000000 ∷ 0x00000000 ∷ 0x00000000 ∷ 0x00000000 ∷ 0x00000000
+        ∷ 0x00000041 ∷ 0x00000000 ∷ 0x00000000 ∷ 0x00000000 ∷ 0x00000000 ∷ 0x00000000 ∷ 0x00000000 ∷ 0x00000000
+        ∷ 0x00000000 ∷ 0x00000000 ∷ 0x00000000 ∷ 0x00000000 ∷ 0x00000000 ∷ 0x00000000 ∷ 0x00000000 ∷ 0x00000000
+        ∷ 0x00000000 ∷ 0x00000000 ∷ 0x00000000 ∷ 0x00000000 ∷ 0x00000000 ∷ 0x00000000 ∷ 0x00000000 ∷ 0x00000000 ∷ []);
+    psr = 0xF3000080;
+    wim = 0x00000002;
+    tbr = 0x00000000;
+    y = 0x00000000;
+    pc = 0x4000000C;
+    npc = 0x40000010;
+    parity = parity 0 0 0 0;
+  } ∷ [];
+  ahb_addr = 0x00000000;
+  ahb_status = 0x00000000;
+  transfers = transfer 0 0 0 kinds.Fetch whys.Absent 0x40000000 0 8 0x0000000000000000 ∷ [];
+  order = [];
+  fates = [];
+  watch = [];
+}
+
+unfoldable pub byte_out_lines : List String
+byte_out_lines =
+    "leon3ft report 1"
+    ∷ "cores 1"
+    ∷ "core 0 halt 80 4 5"
+    ∷ "out 0 41"
+    ∷ "g 0 00000000 80000000 00000000 00000000 00000000 00000000 00000000 00000000"
+    ∷ "o 0 00000041 00000000 00000000 00000000 00000000 00000000 00000000 00000000"
+    ∷ "l 0 00000000 00000000 00000000 00000000 00000000 00000000 00000000 00000000"
+    ∷ "i 0 00000000 00000000 00000000 00000000 00000000 00000000 00000000 00000000"
+    ∷ "ctl 0 F3000080 00000002 00000000 00000000 4000000C 40000010"
+    ∷ "parity 0 0 0 0 0"
+    ∷ "ahb 00000000 00000000"
+    ∷ "transfers 1"
+    ∷ "t 0 0 0 fetch absent 40000000 0 0000000000000000"
+    ∷ "order 0"
+    ∷ "flips 0"
+    ∷ "watch 0"
+    ∷ "end" ∷ []
+
+unfoldable pub byte_out_text : List ℕ
+unfolding byte_out_lines
+byte_out_text = text_lines byte_out_lines

@@ -1,0 +1,2 @@
+//! Worked reports.
+#![tactic(auto)]
