@@ -15,6 +15,8 @@ pub struct Held {
 }
 
 /// An empty record for each word that a plan strikes, by address.
+// No clause pins the records of this file: they decide which flips are repaired, overwritten or dormant, and clauses speak of late
+// and declined flips alone so far.
 pub fn held_of(alloc: Global, plan: &[Strike]) -> Result<Vec<Held>, AllocError> {
     let mut held = Vec::with_capacity(alloc, plan.len())?;
     for strike in plan {
@@ -37,6 +39,7 @@ fn place_of(held: &[Held], word: u32) -> Option<usize>
 }
 
 /// Notes that a flip stands in a word from now on.
+// No clause, for the reason given at `held_of`.
 pub fn hold(held: &mut Vec<Held>, word: u32, number: usize) {
     if let Some(place) = place_of(held, word) {
         let mut here = held[place];

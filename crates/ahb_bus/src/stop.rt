@@ -6,6 +6,7 @@ use flip_plan::Strike;
 use lf_model::trace::{Fate, Word2};
 
 /// The flips of the plan that were the last two to be applied to a word up to a turn.
+// No clause: it decides which flips are stopped, and clauses speak of late and declined flips alone so far.
 fn last_two(plan: &[Strike], fates: &[Fate], word: u32, turn: u32) -> [Option<usize>; 2] {
     let mut last = [None, None];
     for strike in plan {

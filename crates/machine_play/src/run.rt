@@ -87,6 +87,7 @@ fn run(m: &mut Machine) -> Ending
 }
 
 /// The word that a stop names, if there is one.
+// No clause: it decides which flips are stopped, and clauses speak of late and declined flips alone so far.
 fn named_words(named: &Option<Word2>) -> &[Word2] {
     match named {
         Some(word) => std::slice::from_ref(word),
