@@ -66,9 +66,9 @@ module _ (shape : Shape) (ok : IsShape shape) where
       let q = both _ (f.line / 2 ^ 8 % 256 == addr / 2 ^ 8 % 256) p.1 in
       let r = both (f.line / 2 ^ 24 % 256 == addr / 2 ^ 24 % 256) _ q.0 in
       let line = same_line f.line addr shape.sets placed.bound bound ok.by_eight
-          (eqb-true (f.line / 2 ^ 24 % 256) (addr / 2 ^ 24 % 256) r.0) (eqb-true (f.line / 2 ^ 16 % 256) (addr / 2 ^ 16 % 256) r.1)
-          (eqb-true (f.line / 2 ^ 8 % 256) (addr / 2 ^ 8 % 256) q.1)
-          (same_set (f.line / 32 % shape.sets) (addr / 32 % shape.sets) shape.ways i placed.set.from placed.set.below set.from set.below) in
+      (eqb-true (f.line / 2 ^ 24 % 256) (addr / 2 ^ 24 % 256) r.0) (eqb-true (f.line / 2 ^ 16 % 256) (addr / 2 ^ 16 % 256) r.1)
+      (eqb-true (f.line / 2 ^ 8 % 256) (addr / 2 ^ 8 % 256) q.1)
+      (same_set (f.line / 32 % shape.sets) (addr / 32 % shape.sets) shape.ways i placed.set.from placed.set.below set.from set.below) in
       omega (arith, line, placed.aligned)
 
   line_tagged : (addr : ℕ) (f : LineFill) → (f.valid == 0) ≡ false → f.line ≡ line_of addr → has_tag addr (tag_by (Some f)) ≡ true
@@ -101,6 +101,7 @@ module _ (shape : Shape) (ok : IsShape shape) where
     where
       not_some : (f : LineFill) → None ≡ Some f → ⊥
       not_some f e = absurd cc
+
       was : (addr i : ℕ) → holds addr (slot_at i d) ≡ true → holds addr (slot_at i c) ≡ true
       was addr i at_i = elim (less i) [
         | inl same ↦ ap (has_tag addr) (h.tags i ∙ (ap tag_by (sym same) ∙ sym (tags i))) ∙ at_i
@@ -119,15 +120,15 @@ module _ (shape : Shape) (ok : IsShape shape) where
   pub fits_checked : (addr : ℕ) (c : Cache) (F : ℕ → Option LineFill) → Fits c F → Fits (after_check addr c) (checked_fill addr c F)
   fits_checked addr c F h = let kept = check_shape has_struck_tag dropped_by_tag refl fixed (set_of addr c) (record { dropped = false; cache = c }) in
       fits_less c (after_check addr c) F (checked_fill addr c F) h kept.0 kept.1
-          (λ i. ap (λ (s : Slot). s.tag) (after_slot addr i c) ∙ pick_tag (check_drops addr c i) (slot_at i c) (F i) (h.tags i))
-          (λ i. less_if (check_drops addr c i) (F i))
+      (λ i. ap (λ (s : Slot). s.tag) (after_slot addr i c) ∙ pick_tag (check_drops addr c i) (slot_at i c) (F i) (h.tags i))
+      (λ i. less_if (check_drops addr c i) (F i))
 
   -- ---- the line that matches
 
   abbrev pub in_set : ℕ → Shape → ℕ → Bool
   in_set addr s i = list_any (λ j. j == i) (range_with_len (addr / 32 % s.sets * s.ways) s.ways)
 
-  set_is : (addr i : ℕ) (c : Cache) (F : ℕ → Option LineFill) → Fits c F → is_in_set addr c i ≡ in_set addr shape i
+  pub set_is : (addr i : ℕ) (c : Cache) (F : ℕ → Option LineFill) → Fits c F → is_in_set addr c i ≡ in_set addr shape i
   set_is addr i c F h = ap (λ s. in_set addr s i) h.shaped
 
   pub set_holds : (addr i : ℕ) (c : Cache) (F : ℕ → Option LineFill) → Fits c F → is_in_set addr c i ≡ true → InSet addr i
@@ -137,7 +138,7 @@ module _ (shape : Shape) (ok : IsShape shape) where
       → option_map_or (λ j. j == i) (matching addr c) false ≡ holds addr (slot_at i c)
   match_is addr i c F h e = elim (cases_Bool (holds addr (slot_at i c))) [
     | inl present ↦ ap (λ m. option_map_or (λ j. j == i) m false) (find_one (λ j. holds addr (slot_at j c)) i (set_of addr c) e present
-            (λ j among_set at_j. h.apart addr j i (set_holds addr j c F h among_set) (set_holds addr i c F h e) at_j present))
+        (λ j among_set at_j. h.apart addr j i (set_holds addr j c F h among_set) (set_holds addr i c F h e) at_j present))
         ∙ (eq-eqb i i refl ∙ sym present)
     | inr absent ↦ by_found absent (matching addr c) refl ∙ sym absent
   ]
@@ -167,8 +168,8 @@ module _ (shape : Shape) (ok : IsShape shape) where
   fill_words addr len i f true e bound some set placed =
       and_true (has_tag addr (tag_by (Some f)))
       ∙ (same_bools (has_tag addr (tag_by (Some f))) (f.line == line_of addr)
-          (λ tagged. eq-eqb f.line (line_of addr) (line_same addr i f bound set placed tagged))
-          (λ same. line_tagged addr f (nonzero f.valid (addr / 4 % 8) ((len + 3) / 4) (omega (arith, some)) e) (eqb-true f.line (line_of addr) same))
+      (λ tagged. eq-eqb f.line (line_of addr) (line_same addr i f bound set placed tagged))
+      (λ same. line_tagged addr f (nonzero f.valid (addr / 4 % 8) ((len + 3) / 4) (omega (arith, some)) e) (eqb-true f.line (line_of addr) same))
       ∙ sym (and_true (f.line == line_of addr)))
 
   by_fill : (addr len i : ℕ) (f : Option LineFill) → ((g : LineFill) → f ≡ Some g → Placed g i) → addr < 2 ^ 32 → 1 ≤ len → InSet addr i
@@ -209,4 +210,4 @@ module _ (shape : Shape) (ok : IsShape shape) where
       hit_by addr len i (checked addr c) (matching addr (after_check addr c))
       ∙ (ap (λ b. b && good_words addr len (after_check addr c) i) (match_is addr i (after_check addr c) (checked_fill addr c F) g (set_is addr i (after_check addr c) (checked_fill addr c F) g ∙ (sym (set_is addr i c F h) ∙ e)))
       ∙ by_struck addr len i c F h bound some set (has_struck_tag (slot_at i c)) (slot_at i (after_check addr c))
-          (after_slot addr i c ∙ ap (λ of_set. check_slot has_struck_tag dropped_by_tag refl fixed of_set (slot_at i c)) e))
+      (after_slot addr i c ∙ ap (λ of_set. check_slot has_struck_tag dropped_by_tag refl fixed of_set (slot_at i c)) e))

@@ -83,7 +83,7 @@ pub record LineFill : Type 0 where
 
 -- what an act fills into slot i
 abbrev pub fills : Cache → ℕ → Act → Option LineFill
-fills cache i (AFill addr valid) = if i == victim addr cache then Some (record { line = line_of addr; valid = valid }) else None
+fills cache i (AFill addr valid) = if victim addr cache == i then Some (record { line = line_of addr; valid = valid }) else None
 fills cache i (ALook addr len) = None
 fills cache i (AStore addr len) = None
 fills cache i (ASnoop addr) = None
