@@ -9,7 +9,7 @@ use Rattle.lf_model.specs.Bus.Words.{words_begun}
 use Rattle.lf_model.specs.Course.Core.{Ground}
 use Rattle.lf_model.specs.Course.Course.{observe, course}
 use Rattle.lf_model.specs.Course.Progress.{start}
-use Rattle.lf_model.specs.Ledger.Account.{transfer_made}
+use Rattle.lf_model.specs.Ledger.Account.{transfer_made, without_length}
 use Rattle.lf_model.specs.declared.bus.Transfer.{Transfer}
 use Rattle.lf_model.specs.declared.setup.Setup.{Setup}
 
@@ -67,3 +67,12 @@ module _ (setup : Setup) where
       → ((pre post : List Transfer) (t : Transfer) → ts ≡ pre ++ t ∷ post → made_in (fold (replay_turn setup) r pre) t ≡ t) → made_from r ts ≡ ts
   made_as_reported r [] each = refl
   made_as_reported r (t ∷ ts) each = rw (each [] ts t refl, made_as_reported (replay_turn setup r t) ts (λ pre post u split. each (t ∷ pre) post u (ap (λ us. t ∷ us) split))) refl
+
+  -- the run of all masters doesn't look at the lengths that transfers report
+  pub turn_without_length : (r : Replay) (t : Transfer) → replay_turn setup r (without_length t) ≡ replay_turn setup r t
+  unfolding replay_turn made_turn
+  turn_without_length r t = refl
+
+  pub turns_without_length : (r : Replay) (ts : List Transfer) → fold (replay_turn setup) r (map without_length ts) ≡ fold (replay_turn setup) r ts
+  turns_without_length r [] = refl
+  turns_without_length r (t ∷ ts) = ap (λ q. fold (replay_turn setup) q (map without_length ts)) (turn_without_length r t) ∙ turns_without_length (replay_turn setup r t) ts
