@@ -1,16 +1,16 @@
 -- A fill takes a slot of its set, and keeps the lines of a set apart.
-use Rattle.std.proofs.Common.{◌≡◌, ◌∙◌, ◌+◌, ◌-◌, ◌*◌, ◌/◌, ◌%◌, ◌^◌, ◌==◌, ◌&&◌, ◌||◌, ◌≤◌, ◌<◌, ◌⊎◌, not, nat_lt, ℕ, zero, suc, Bool, true, false, List, [], ◌∷◌, Option, Some, None, find, fold, map, length, unwrap_or, refl, ap, sym, subst, arith, if◌then◌else◌, inl, inr, slice_index}
+use Rattle.std.proofs.Common.{◌≡◌, ◌∙◌, ◌+◌, ◌*◌, ◌/◌, ◌%◌, ◌^◌, ◌==◌, ◌&&◌, ◌≤◌, ◌<◌, not, nat_lt, ℕ, zero, suc, Bool, true, false, List, [], ◌∷◌, Option, Some, None, find, fold, length, unwrap_or, refl, ap, sym, subst, arith, if◌then◌else◌, slice_index}
 use Rattle.std.proofs.Math.Nat.{mul-le-mul_right, suc-mul, mod-lt, mul_comm}
-use Rattle.std.proofs.lemmas.Bool.{cases_Bool, eqb-true, eq-eqb}
+use Rattle.std.proofs.lemmas.Bool.{eqb-true, eq-eqb}
 use Rattle.std.proofs.lemmas.List.{length-set}
 use Rattle.std.specs.List.{list_any, range_with_len}
-use Rattle.std.specs.Option.{option_map_or, option_or}
-use Rattle.lf_model.proofs.HitLemmas.{true_not_false, both, find_passes, find_one}
+use Rattle.std.specs.Option.{option_or}
+use Rattle.lf_model.proofs.HitLemmas.{both, find_passes, find_one}
 use Rattle.lf_model.proofs.LineLemmas.{or_left, or_right, is_among, same_set}
 use Rattle.lf_model.proofs.ResidenceLaw.{tag_by, has_tag, InSet, Placed, Fits, set_holds, set_is}
 use Rattle.lf_model.proofs.TagLemmas.{tag_at, tag_set, tag_used}
-use Rattle.lf_model.specs.Caches.Slot.{Slot, empty_slot, tag_of, line_of, holds, is_present, filled_slot}
-use Rattle.lf_model.specs.Caches.Cache.{Cache, slot_at, with_slot, set_of, matching, used}
+use Rattle.lf_model.specs.Caches.Slot.{tag_of, line_of, holds, is_present, filled_slot}
+use Rattle.lf_model.specs.Caches.Cache.{Cache, slot_at, with_slot, set_of, matching}
 use Rattle.lf_model.specs.Caches.Change.{older, victim, filled}
 use Rattle.lf_model.specs.Caches.Residence.{LineFill, IsShape, is_in_set}
 use Rattle.lf_model.specs.declared.config.Shape.{Shape}

@@ -1,14 +1,12 @@
 -- The run of all masters: each of its cores is that core's course over the transfers that were made, and where every transfer
 -- reported is the one made, these are the transfers reported.
-use Rattle.std.proofs.Common.{◌≡◌, ◌∙◌, ◌++◌, ℕ, List, [], ◌∷◌, fold, map, refl, ap, sym}
+use Rattle.std.proofs.Common.{◌≡◌, ◌∙◌, ◌++◌, List, [], ◌∷◌, fold, map, refl, ap, sym}
 use Rattle.std.proofs.lemmas.List.{append_assoc, append-nil, map-append, map-id}
 use Rattle.std.proofs.lemmas.Simd.{map-map}
-use Rattle.std.proofs.lemmas.List.Sums.{fold-append}
-use Rattle.lf_model.specs.Bus.Replay.{Core, Made, Replay, core_start, core_after, replay_start, made_turn, replay_turn}
+use Rattle.lf_model.specs.Bus.Replay.{Core, Replay, core_start, core_after, replay_start, made_turn, replay_turn}
 use Rattle.lf_model.specs.Bus.Words.{words_begun}
 use Rattle.lf_model.specs.Course.Core.{Ground}
 use Rattle.lf_model.specs.Course.Course.{observe, course}
-use Rattle.lf_model.specs.Course.Progress.{start}
 use Rattle.lf_model.specs.Ledger.Account.{transfer_made, without_length}
 use Rattle.lf_model.specs.declared.bus.Transfer.{Transfer}
 use Rattle.lf_model.specs.declared.setup.Setup.{Setup}

@@ -1,17 +1,16 @@
 -- A look-up hits exactly where the wanted words are resident, after all that was done to the cache since reset.
-use Rattle.std.proofs.Common.{◌≡◌, ◌∙◌, ◌*◌, ◌==◌, ◌&&◌, ◌||◌, ◌≤◌, ◌<◌, ◌^◌, ◌⊎◌, ℕ, Bool, true, false, List, [], ◌∷◌, Option, Some, None, length, map, replicate, refl, ap, sym, subst, if◌then◌else◌, inl, inr, not}
+use Rattle.std.proofs.Common.{◌≡◌, ◌∙◌, ◌*◌, ◌==◌, ◌||◌, ◌<◌, ◌⊎◌, ℕ, Bool, true, false, List, [], ◌∷◌, Option, Some, None, length, refl, ap, sym, if◌then◌else◌, inl, inr, not}
 use Rattle.std.proofs.lemmas.List.{length-map, length-replicate, length-set}
 use Rattle.std.specs.List.{AllByRecursion}
 use Rattle.std.specs.Option.{option_map_or, option_or}
-use Rattle.lf_model.proofs.CheckLemmas.{check_shape}
 use Rattle.lf_model.proofs.FillLemmas.{fits_filled, set_within}
 use Rattle.lf_model.proofs.HitLemmas.{true_not_false, find_passes}
-use Rattle.lf_model.proofs.ResidenceLaw.{tag_by, Fits, fits_less, checked_fill, fits_checked, set_holds, hit_is}
+use Rattle.lf_model.proofs.ResidenceLaw.{Fits, fits_less, checked_fill, fits_checked, set_holds, hit_is}
 use Rattle.lf_model.proofs.TagLemmas.{tag_at, tag_set, tag_kept, tag_used, tag_flushed, tag_empty, look_tags, merged}
-use Rattle.lf_model.specs.Caches.Slot.{Slot, holds, dropped, has_struck_tag, dropped_by_byte, has_wanted_words, has_struck_byte}
-use Rattle.lf_model.specs.Caches.Cache.{Cache, empty_cache, slot_at, with_slot, set_of, matching, used}
+use Rattle.lf_model.specs.Caches.Slot.{holds, dropped, has_wanted_words, has_struck_byte}
+use Rattle.lf_model.specs.Caches.Cache.{Cache, empty_cache, slot_at, with_slot, set_of, matching}
 use Rattle.lf_model.specs.Caches.Change.{stored_in, update_by, updated, drop_by, snooped, flushed}
-use Rattle.lf_model.specs.Caches.Look.{Checked, Looked, checked, look_in, look_by, look}
+use Rattle.lf_model.specs.Caches.Look.{Checked, Looked, checked, look_by, look}
 use Rattle.lf_model.specs.Caches.Residence.{Act, LineFill, IsShape, FitsTag, HitsWhereResident, acted, after_check, cache_after, check_drops, drops, fills, last_fill, is_match, with_tag_flip, with_line_flip}
 use Rattle.lf_model.specs.Caches.Residence.Act.{ALook, AStore, ASnoop, AFill, AFlush, ATagFlip, ALineFlip}
 use Rattle.lf_model.specs.declared.config.Shape.{Shape}

@@ -1,7 +1,7 @@
 -- The run of all masters over the transfers of a trace. Of a core's transfer it takes master, step, kind and cause, and of the
 -- scrubber's the master; all else it makes itself: each address by the core or the walk, and what memory answers by the
 -- histories of the words.
-use Rattle.std.specs.Prelude.{ℕ, ◌+◌, ◌-◌, ◌*◌, ◌==◌, List, [], ◌∷◌, ◌++◌, map, fold, Option, Some, None, option_map, slice_get, if◌then◌else◌}
+use Rattle.std.specs.Prelude.{ℕ, ◌+◌, ◌*◌, ◌==◌, List, [], ◌∷◌, ◌++◌, map, fold, Option, Some, None, option_map, slice_get, if◌then◌else◌}
 use Rattle.lf_model.specs.Bus.Walk.{Walk, scrubber, walk_start, next_transfer, walked}
 use Rattle.lf_model.specs.Bus.Words.{Word, words_struck, words_begun, word_of, answered, words_after}
 use Rattle.lf_model.specs.Course.Core.{Ground, is_stop_at}
@@ -10,7 +10,7 @@ use Rattle.lf_model.specs.Course.Outcome.{Need}
 use Rattle.lf_model.specs.Course.Outcome.Need.{NoTurn}
 use Rattle.lf_model.specs.Course.Progress.{Progress, start}
 use Rattle.lf_model.specs.Course.Syndromes.{enters_log}
-use Rattle.lf_model.specs.Course.Turn.{Target, target_of, addressed, addressed_at, turn_attempt, turn_needs}
+use Rattle.lf_model.specs.Course.Turn.{Target, target_of, addressed, turn_attempt, turn_needs}
 use Rattle.lf_model.specs.Course.Turned.{bad_wanted}
 use Rattle.lf_model.specs.Effect.{Effect}
 use Rattle.lf_model.specs.Run.{effect_at_pc}

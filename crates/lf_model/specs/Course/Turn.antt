@@ -2,7 +2,7 @@
 -- address the transfer is.
 use Rattle.std.specs.Prelude.{ℕ, ◌||◌, nat_le, Bool, List, fold, length, Option, Some, None, option_map, slice_get, if◌then◌else◌}
 use Rattle.lf_model.specs.Caches.Slot.{line_of}
-use Rattle.lf_model.specs.Caches.Cache.{Cache, way_of}
+use Rattle.lf_model.specs.Caches.Cache.{way_of}
 use Rattle.lf_model.specs.Caches.Change.{snooped, victim}
 use Rattle.lf_model.specs.Course.Arrays.{Arrays, begun}
 use Rattle.lf_model.specs.Course.Attempt.{Attempt, comes_to, attempt}

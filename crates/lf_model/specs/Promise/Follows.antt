@@ -1,6 +1,6 @@
 -- A trace follows a schedule: its transfers come in the order of the schedule's events, each taken as often as it counts, and
 -- after the last one of a round of all actors, one step each, over and over until all have ended.
-use Rattle.std.specs.Prelude.{ℕ, zero, suc, ◌≡◌, ◌+◌, List, [], ◌∷◌, length, map, filter, fold, sum}
+use Rattle.std.specs.Prelude.{ℕ, zero, suc, ◌≡◌, ◌+◌, List, [], length, map, filter, fold, sum}
 use Rattle.std.specs.List.{range_with_len}
 use Rattle.lf_model.specs.Course.Core.{is_store}
 use Rattle.lf_model.specs.Execution.{program_order}

@@ -1,7 +1,7 @@
 -- The headline: a trace is an upset-free execution of the image's code in total store order, it reports the results of that
 -- execution, and an error trap stopped a core only where a word or a register cell with two turned bits was met.
-use Rattle.std.specs.Prelude.{ℕ, ◌≡◌, ◌==◌, length, map, is_none, IfSome, slice_get, option_and_then}
-use Rattle.lf_model.specs.Bus.Replay.{Core, Replay}
+use Rattle.std.specs.Prelude.{ℕ, ◌≡◌, length, map, is_none, IfSome, slice_get}
+use Rattle.lf_model.specs.Bus.Replay.{Core}
 use Rattle.lf_model.specs.Ledger.Account.{replay_of, is_bad_at}
 use Rattle.lf_model.specs.Ledger.CoreAccount.{blank_registers, errors_reported}
 use Rattle.lf_model.specs.Ledger.Steps.{own_transfers}
