@@ -1,17 +1,16 @@
 -- A look-up hits exactly where the wanted words are resident.
-use Rattle.std.proofs.Common.{◌≡◌, ◌∙◌, ◌+◌, ◌-◌, ◌*◌, ◌/◌, ◌%◌, ◌^◌, ◌==◌, ◌&&◌, ◌||◌, ◌≤◌, ◌<◌, ◌⊎◌, not, nat_lt, ℕ, zero, suc, Bool, true, false, List, [], ◌∷◌, Option, Some, None, find, map, length, replicate, fold, refl, ap, sym, subst, arith, if◌then◌else◌, inl, inr, slice_index}
+use Rattle.std.proofs.Common.{◌≡◌, ◌∙◌, ◌+◌, ◌*◌, ◌/◌, ◌%◌, ◌^◌, ◌==◌, ◌&&◌, ◌≤◌, ◌<◌, ◌⊎◌, not, ℕ, zero, suc, Bool, true, false, List, [], ◌∷◌, Option, Some, None, map, length, refl, ap, sym, arith, if◌then◌else◌, inl, inr, slice_index}
 use Rattle.std.proofs.lemmas.Bool.{cases_Bool, eqb-true, eq-eqb}
-use Rattle.std.proofs.lemmas.List.{get_or-set_same, get_or-set_other, get_or_past, length-set}
 use Rattle.std.proofs.lemmas.Nat.Bits.{bit_at-zero}
 use Rattle.std.specs.Int.{bit_at}
-use Rattle.std.specs.List.{list_all, list_any, range_with_len, AllByRecursion}
-use Rattle.std.specs.Option.{option_map_or, option_or}
-use Rattle.lf_model.proofs.CheckLemmas.{slot_same, slot_other, slot_past, check_slot, check_all, check_shape}
+use Rattle.std.specs.List.{list_all, list_any, range_with_len}
+use Rattle.std.specs.Option.{option_map_or}
+use Rattle.lf_model.proofs.CheckLemmas.{check_slot, check_all, check_shape}
 use Rattle.lf_model.proofs.HitLemmas.{true_not_false, and_false, and_true, both, same_bools, find_one, find_passes, good_words, hit_by}
-use Rattle.lf_model.proofs.LineLemmas.{same_line, among, is_among, same_set}
+use Rattle.lf_model.proofs.LineLemmas.{same_line, among, same_set}
 use Rattle.lf_model.specs.Caches.Slot.{Slot, empty_slot, empty_tag, tag_of, line_of, holds, wanted_words, has_wanted_words, has_struck_tag, has_struck_byte, written, checked_byte, dropped_by_tag}
-use Rattle.lf_model.specs.Caches.Cache.{Cache, slot_at, with_slot, set_of, matching, used}
-use Rattle.lf_model.specs.Caches.Look.{Checked, Looked, check_way, checked, look_by, look}
+use Rattle.lf_model.specs.Caches.Cache.{Cache, slot_at, set_of, matching}
+use Rattle.lf_model.specs.Caches.Look.{checked, look}
 use Rattle.lf_model.specs.Caches.Residence.{LineFill, IsShape, after_check, is_in_set, check_drops, fill_has, is_hit_in}
 use Rattle.lf_model.specs.Flips.{Moment, is_struck_byte}
 use Rattle.lf_model.specs.declared.config.Shape.{Shape}
@@ -128,7 +127,7 @@ module _ (shape : Shape) (ok : IsShape shape) where
   abbrev pub in_set : ℕ → Shape → ℕ → Bool
   in_set addr s i = list_any (λ j. j == i) (range_with_len (addr / 32 % s.sets * s.ways) s.ways)
 
-  set_is : (addr i : ℕ) (c : Cache) (F : ℕ → Option LineFill) → Fits c F → is_in_set addr c i ≡ in_set addr shape i
+  pub set_is : (addr i : ℕ) (c : Cache) (F : ℕ → Option LineFill) → Fits c F → is_in_set addr c i ≡ in_set addr shape i
   set_is addr i c F h = ap (λ s. in_set addr s i) h.shaped
 
   pub set_holds : (addr i : ℕ) (c : Cache) (F : ℕ → Option LineFill) → Fits c F → is_in_set addr c i ≡ true → InSet addr i
