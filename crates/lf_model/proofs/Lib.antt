@@ -5,3 +5,8 @@ pub mod SameAccount
 pub mod CourseLemmas
 pub mod ReplayLemmas
 pub mod TouchLemmas
+pub mod RecordsCompose
+pub mod CheckLemmas
+pub mod LineLemmas
+pub mod HitLemmas
+pub mod ResidenceLaw

@@ -3,3 +3,4 @@ pub mod Slot
 pub mod Cache
 pub mod Look
 pub mod Change
+pub mod Residence

@@ -1,6 +1,6 @@
 -- The walk of the scrubber (GRLIB, MEMSCRUB, scrub mode): it looks at its range line by line, round and round, and after each
 -- look makes one fix for each word that it read not clean, in the order of their addresses. The order is this machine's own.
-use Rattle.std.specs.Prelude.{ℕ, ◌+◌, ◌*◌, ◌==◌, not, List, [], ◌∷◌, filter, map, drop, slice_index, if◌then◌else◌}
+use Rattle.std.specs.Prelude.{ℕ, ◌≡◌, ◌<◌, ◌+◌, ◌*◌, ◌==◌, not, List, [], ◌∷◌, length, filter, map, fold, take, slice_get, slice_index, IfSome, if◌then◌else◌}
 use Rattle.std.specs.List.{range_with_len}
 use Rattle.lf_model.specs.Course.Syndromes.{syndromes_of}
 use Rattle.lf_model.specs.declared.bus.Transfer.{Transfer}
@@ -60,3 +60,22 @@ words_noted t = map (λ j. t.addr + 4 * j) (filter (λ j. not (slice_index (synd
 abbrev pub walked : Range → Transfer → Walk → List ℕ → Walk
 walked range t w [] = record { line = next_line range w.line; noted = words_noted t; turns = w.turns + 1 }
 walked range t w (addr ∷ rest) = record w { noted = rest; turns = w.turns + 1 }
+
+-- ---- the transfers of the scrubber among all transfers
+
+abbrev pub walk_by : Range → Walk → Transfer → Walk
+walk_by range w t = if t.master == scrubber then walked range t w w.noted else w
+
+-- the walk after these transfers
+abbrev pub walk_after : Range → List Transfer → Walk
+walk_after range transfers = fold (walk_by range) (walk_start range) transfers
+
+-- the transfer at this turn, if it is the scrubber's, is the next of its walk
+abbrev pub WalkAt : Range → List Transfer → ℕ → Type 0
+WalkAt range transfers turn = IfSome (slice_get transfers turn) (λ t. t.master ≡ scrubber
+    → record (next_transfer turn (walk_after range (take turn transfers)) (walk_after range (take turn transfers)).noted) { words = t.words; syn = t.syn } ≡ t)
+
+-- the scrubber's transfers are its whole walk over this range, with so many turns
+pub record IsWholeWalk (range : Range) (turns : ℕ) (transfers : List Transfer) : Type 0 where
+  pub each : (turn : ℕ) → turn < length transfers → WalkAt range transfers turn
+  pub all : (walk_after range transfers).turns ≡ turns

@@ -1,0 +1,178 @@
+-- The records of cores and bus together: where each transfer is right as its master's record and the bus's say, the run of all
+-- masters makes just these transfers, with these words in memory and this walk of the scrubber.
+use Rattle.std.proofs.Common.{◌≡◌, ◌∙◌, ◌+◌, ◌==◌, ◌++◌, ℕ, zero, suc, Bool, true, false, List, [], ◌∷◌, Option, Some, None, length, fold, map, refl, ap, sym, subst, arith, if◌then◌else◌}
+use Rattle.std.proofs.lemmas.Bool.{eq-eqb}
+use Rattle.std.proofs.lemmas.List.{append_assoc, append-nil, length-append}
+use Rattle.std.proofs.lemmas.List.Sums.{fold-append}
+use Rattle.std.proofs.lemmas.Option.{slice_get-map}
+use Rattle.std.proofs.lemmas.Simd.{map-map}
+use Rattle.std.specs.List.{slice_get}
+use Rattle.std.specs.Option.{option_map}
+use Rattle.lf_model.proofs.ReplayLemmas.{made_in, made_from, core_over, core_after_all, cores_after}
+use Rattle.lf_model.specs.Bus.Replay.{Core, Made, Replay, core_start, name_of, replay_start, made_at, made_by_core, made_by_scrubber, made_turn, replay_turn}
+use Rattle.lf_model.specs.Bus.Walk.{Walk, scrubber, next_transfer, walk_start, walk_by, walk_after}
+use Rattle.lf_model.specs.Bus.Words.{Word, words_begun, answered, words_after}
+use Rattle.lf_model.specs.Course.Core.{Ground}
+use Rattle.lf_model.specs.Course.Course.{up_to, course}
+use Rattle.lf_model.specs.Course.Progress.{Progress}
+use Rattle.lf_model.specs.Course.Turn.{addressed}
+use Rattle.lf_model.specs.Course.Turned.{bad_wanted}
+use Rattle.lf_model.specs.Records.BusMemory.{Memory, name_at, memory_start, memory_turn, memory_after}
+use Rattle.lf_model.specs.Records.OwnTurns.{IsRightTurn, next_effect}
+use Rattle.lf_model.specs.declared.bus.Transfer.{Transfer}
+use Rattle.lf_model.specs.declared.setup.Setup.{Setup}
+use Rattle.lf_model.specs.declared.trace.Word2.{Word2}
+
+two : {A B D : Type 0} (f : A → B → D) {a a' : A} {b b' : B} → a ≡ a' → b ≡ b' → f a b ≡ f a' b'
+two f p q = rw (p, q) refl
+
+three : {A B C D : Type 0} (f : A → B → C → D) {a a' : A} {b b' : B} {c c' : C} → a ≡ a' → b ≡ b' → c ≡ c' → f a b c ≡ f a' b' c'
+three f p q r = rw (p, q, r) refl
+
+module _ (setup : Setup) (grounds : List Ground) (named : List Word2) where
+  -- all masters, memory and the walk after these transfers
+  abbrev pub after : List Transfer → Replay
+  after ts = fold (replay_turn setup) (replay_start setup grounds) ts
+
+  abbrev pub words_at : List Transfer → List Word
+  words_at ts = words_begun setup.flips (length ts) (memory_after setup.flips named ts).words
+
+  -- the word that an error trap names at the transfer after these
+  abbrev pub name_after : List Transfer → Option ℕ
+  name_after pre = name_at named (length pre)
+
+  -- a transfer after these is right, as its master's record says: of the scrubber the next of its walk, at which no error trap
+  -- names a word, and of a core its next turn
+  pub data IsRight (pre : List Transfer) (t : Transfer) : Type 0 where
+    ByScrubber : t.master ≡ scrubber → None ≡ name_after pre
+        → record (next_transfer (length pre) (walk_after setup.config.scrub pre) (walk_after setup.config.scrub pre).noted) { words = t.words; syn = t.syn } ≡ t
+        → IsRight pre t
+    ByCore : (g : Ground) → (t.master == scrubber) ≡ false → slice_get grounds t.master ≡ Some g → IsRightTurn g t (up_to g t (course g pre))
+        → name_of g t (bad_wanted (up_to g t (course g pre)).run.state.ctl.pc (next_effect g (up_to g t (course g pre))) t) ≡ name_after pre
+        → IsRight pre t
+
+  -- memory answers it so, at its turn
+  pub record IsAnswered (pre : List Transfer) (t : Transfer) : Type 0 where
+    pub turn : t.turn ≡ length pre
+    pub answer : answered (words_at pre) t ≡ t
+
+  -- what holds of the run after these transfers
+  pub record Along (pre : List Transfer) : Type 0 where
+    pub made : made_from setup (replay_start setup grounds) pre ≡ pre
+    pub turns : (after pre).turns ≡ length pre
+    pub words : (after pre).words ≡ (memory_after setup.flips named pre).words
+    pub walk : (after pre).walk ≡ walk_after setup.config.scrub pre
+
+  -- the cores are their courses
+  pub along_cores : (pre : List Transfer) → Along pre → (after pre).cores ≡ map (core_after_all setup pre) grounds
+  along_cores pre h =
+      cores_after setup (replay_start setup grounds) pre
+      ∙ (ap (λ us. map (core_over setup us) (map core_start grounds)) h.made
+      ∙ map-map (core_over setup pre) core_start grounds)
+
+  core_along : (pre : List Transfer) → Along pre → (n : ℕ) (g : Ground) → slice_get grounds n ≡ Some g → slice_get (after pre).cores n ≡ Some (core_after_all setup pre g)
+  core_along pre h n g found = ap (λ cores. slice_get cores n) (along_cores pre h) ∙ (slice_get-map (core_after_all setup pre) grounds n ∙ ap (option_map (core_after_all setup pre)) found)
+
+  by_scrubber : (r : Replay) (words : List Word) (t : Transfer) → (t.master == scrubber) ≡ true → made_turn r words t ≡ made_by_scrubber words r.turns r.walk
+  unfolding made_turn
+  by_scrubber r words t e = rw e refl
+
+  by_core : (r : Replay) (words : List Word) (t : Transfer) (c : Core) → (t.master == scrubber) ≡ false → slice_get r.cores t.master ≡ Some c
+      → made_turn r words t ≡ made_by_core words (record t { turn = r.turns }) c
+  unfolding made_turn
+  by_core r words t c e found = rw (e, found) refl
+
+  -- the core as the step of a transfer after these begins
+  abbrev at_turn : Ground → List Transfer → Transfer → Progress
+  at_turn g pre t = up_to g t (course g pre)
+
+  abbrev answer_in : Ground → List Transfer → Transfer → ℕ → List Word → Transfer
+  answer_in g pre t turns words =
+      answered (words_begun setup.flips turns words) (addressed g (next_effect g (at_turn g pre t)) (at_turn g pre t) (record t { turn = turns }))
+
+  core_transfer : (g : Ground) (pre : List Transfer) (t : Transfer) → Along pre → IsRightTurn g t (at_turn g pre t) → IsAnswered pre t
+      → answer_in g pre t (after pre).turns (after pre).words ≡ t
+  core_transfer g pre t h right ok =
+      two (answer_in g pre t) h.turns h.words
+      ∙ (ap (λ turn. answered (words_at pre) (addressed g (next_effect g (at_turn g pre t)) (at_turn g pre t) (record t { turn = turn }))) (sym ok.turn)
+      ∙ (ap (answered (words_at pre)) right.placed ∙ ok.answer))
+
+  -- the run makes the transfer
+  pub transfer_made_right : (pre : List Transfer) (t : Transfer) → Along pre → IsRight pre t → IsAnswered pre t → made_in setup (after pre) t ≡ t
+  transfer_made_right pre t h (ByScrubber master unnamed placed) ok =
+      ap (λ (m : Made). m.transfer) (by_scrubber (after pre) _ t (eq-eqb t.master scrubber master))
+      ∙ (three (λ turns words walk. answered (words_begun setup.flips turns words) (next_transfer turns walk walk.noted)) h.turns h.words h.walk
+      ∙ (ap (answered (words_at pre)) placed ∙ ok.answer))
+  transfer_made_right pre t h (ByCore g other found right name) ok =
+      ap (λ (m : Made). m.transfer) (by_core (after pre) _ t (core_after_all setup pre g) other (core_along pre h t.master g found))
+      ∙ core_transfer g pre t h right ok
+
+  -- and names the word that the records name
+  pub name_made_right : (pre : List Transfer) (t : Transfer) → Along pre → IsRight pre t → IsAnswered pre t
+      → (made_turn (after pre) (words_begun setup.flips (after pre).turns (after pre).words) t).named ≡ name_after pre
+  name_made_right pre t h (ByScrubber master unnamed placed) ok =
+      ap (λ (m : Made). m.named) (by_scrubber (after pre) _ t (eq-eqb t.master scrubber master)) ∙ unnamed
+  name_made_right pre t h (ByCore g other found right name) ok =
+      ap (λ (m : Made). m.named) (by_core (after pre) _ t (core_after_all setup pre g) other (core_along pre h t.master g found))
+      ∙ (ap (λ u. name_of g u (bad_wanted (at_turn g pre t).run.state.ctl.pc (next_effect g (at_turn g pre t)) u)) (core_transfer g pre t h right ok) ∙ name)
+
+  -- ---- one transfer more
+
+  memory_turns : (m : Memory) (ts : List Transfer) → (fold (memory_turn setup.flips named) m ts).turns ≡ m.turns + length ts
+  memory_turns m [] = omega arith
+  memory_turns m (t ∷ ts) = omega (arith, memory_turns (memory_turn setup.flips named m t) ts)
+
+  made_from_more : (r : Replay) (ts us : List Transfer) → made_from setup r (ts ++ us) ≡ made_from setup r ts ++ made_from setup (fold (replay_turn setup) r ts) us
+  made_from_more r [] us = refl
+  made_from_more r (t ∷ ts) us = ap (λ vs. made_in setup r t ∷ vs) (made_from_more (replay_turn setup r t) ts us)
+
+  after_one : (pre : List Transfer) (t : Transfer) → after (pre ++ t ∷ []) ≡ replay_turn setup (after pre) t
+  after_one pre t = fold-append (replay_turn setup) (replay_start setup grounds) pre (t ∷ [])
+
+  turn_turns : (r : Replay) (t : Transfer) → (replay_turn setup r t).turns ≡ r.turns + 1
+  unfolding replay_turn
+  turn_turns r t = refl
+
+  turn_words : (r : Replay) (t : Transfer) → (replay_turn setup r t).words
+      ≡ words_after (made_in setup r t) (made_turn r (words_begun setup.flips r.turns r.words) t).named (words_begun setup.flips r.turns r.words)
+  unfolding replay_turn
+  turn_words r t = refl
+
+  turn_walk : (r : Replay) (t : Transfer) → (replay_turn setup r t).walk ≡ walk_by setup.config.scrub r.walk (made_in setup r t)
+  unfolding replay_turn
+  turn_walk r t = refl
+
+  turns_after : (pre : List Transfer) → (memory_after setup.flips named pre).turns ≡ length pre
+  turns_after pre = omega (arith, memory_turns (memory_start setup.flips) pre)
+
+  memory_one : (pre : List Transfer) (t : Transfer) → (memory_after setup.flips named (pre ++ t ∷ [])).words ≡ words_after t (name_after pre) (words_at pre)
+  memory_one pre t =
+      ap (λ (m : Memory). m.words) (fold-append (memory_turn setup.flips named) (memory_start setup.flips) pre (t ∷ []))
+      ∙ ap (λ turns. words_after t (name_at named turns) (words_begun setup.flips turns (memory_after setup.flips named pre).words)) (turns_after pre)
+
+  pub along_more : (pre : List Transfer) (t : Transfer) → Along pre → IsRight pre t → IsAnswered pre t → Along (pre ++ t ∷ [])
+  along_more pre t h right ok = record {
+    made = made_from_more (replay_start setup grounds) pre (t ∷ []) ∙ two (λ us u. us ++ u ∷ []) h.made (transfer_made_right pre t h right ok);
+    turns = ap (λ (r : Replay). r.turns) (after_one pre t) ∙ (turn_turns (after pre) t ∙ (ap (λ n. n + 1) h.turns ∙ sym (length-append pre (t ∷ []))));
+    words = ap (λ (r : Replay). r.words) (after_one pre t)
+        ∙ (turn_words (after pre) t
+        ∙ (three words_after (transfer_made_right pre t h right ok) (name_made_right pre t h right ok) (two (words_begun setup.flips) h.turns h.words)
+        ∙ sym (memory_one pre t)));
+    walk = ap (λ (r : Replay). r.walk) (after_one pre t)
+        ∙ (turn_walk (after pre) t
+        ∙ (two (walk_by setup.config.scrub) h.walk (transfer_made_right pre t h right ok)
+        ∙ sym (fold-append (walk_by setup.config.scrub) (walk_start setup.config.scrub) pre (t ∷ []))));
+  }
+
+  pub along_start : Along []
+  along_start = record { made = refl; turns = refl; words = refl; walk = refl }
+
+  -- where each transfer is right, the run of all masters makes just these
+  pub along_all : (pre ts : List Transfer) → Along pre → ((us vs : List Transfer) (t : Transfer) → ts ≡ us ++ t ∷ vs → IsRight (pre ++ us) t × IsAnswered (pre ++ us) t) → Along (pre ++ ts)
+  along_all pre [] h each = subst (λ us. Along us) (sym (append-nil pre)) h
+  along_all pre (t ∷ ts) h each =
+      let here = each [] ts t refl in
+      let first = subst (λ us. IsRight us t × IsAnswered us t) (append-nil pre) here in
+      subst (λ us. Along us) (append_assoc pre (t ∷ []) ts)
+      (along_all (pre ++ t ∷ []) ts (along_more pre t h first.0 first.1)
+      (λ us vs u split. subst (λ ws. IsRight ws u × IsAnswered ws u) (sym (append_assoc pre (t ∷ []) us)) (each (t ∷ us) vs u (ap (λ ws. t ∷ ws) split))))
