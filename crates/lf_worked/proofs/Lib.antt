@@ -43,6 +43,12 @@ mod SnoopChecksTags
 mod StoreChecksTags
 mod FlipsOfCoreOne
 mod CellOfTheNumberOfATurn
+mod DiscardedByteStaysStruck
+mod StoreWritesStruckBytes
+mod StoreToAWordNotValid
+mod FillOfAPresentLine
+mod FlipInAnotherWindow
+mod BothOperandsAreRead
 mod FetchAfterStruckTag
 mod FetchAfterStruckByte
 mod FetchBadWord

@@ -38,6 +38,12 @@ pub mod SnoopChecksTags
 pub mod StoreChecksTags
 pub mod FlipsOfCoreOne
 pub mod CellOfTheNumberOfATurn
+pub mod DiscardedByteStaysStruck
+pub mod StoreWritesStruckBytes
+pub mod StoreToAWordNotValid
+pub mod FillOfAPresentLine
+pub mod FlipInAnotherWindow
+pub mod BothOperandsAreRead
 pub mod FetchAfterStruckTag
 pub mod FetchAfterStruckByte
 pub mod FetchBadWord

@@ -1,0 +1,15 @@
+-- A byte for which its line was dropped stays struck until it is written.
+use Rattle.std.specs.Prelude.{◌≡◌, refl}
+use Rattle.lf_model.specs.Promise.Played.{IsPlayedBy}
+use Rattle.lf_model.specs.Report.{report}
+use Rattle.lf_worked.specs.Machine.{machine}
+use Rattle.lf_worked.specs.DiscardedByteStaysStruck.{discarded_byte_stays_struck_setup, discarded_byte_stays_struck_events, discarded_byte_stays_struck_trace, discarded_byte_stays_struck_text}
+use Rattle.lf_worked.proofs.PromiseTest.{played}
+
+discarded_byte_stays_struck_report : report discarded_byte_stays_struck_trace ≡ discarded_byte_stays_struck_text
+unfolding machine discarded_byte_stays_struck_trace discarded_byte_stays_struck_text
+discarded_byte_stays_struck_report = refl
+
+discarded_byte_stays_struck_played : IsPlayedBy discarded_byte_stays_struck_setup discarded_byte_stays_struck_events discarded_byte_stays_struck_trace
+unfolding machine discarded_byte_stays_struck_setup discarded_byte_stays_struck_events discarded_byte_stays_struck_trace
+discarded_byte_stays_struck_played = played discarded_byte_stays_struck_setup discarded_byte_stays_struck_events discarded_byte_stays_struck_trace refl
