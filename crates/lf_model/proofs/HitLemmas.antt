@@ -1,13 +1,13 @@
 -- A look-up after its tag check hits in a slot of the set exactly where the line is present there, the wanted words are valid,
 -- and none of their bytes is struck.
-use Rattle.std.proofs.Common.{◌≡◌, ◌∙◌, ◌==◌, ◌&&◌, ◌||◌, not, ℕ, Bool, true, false, List, [], ◌∷◌, Option, Some, None, find, refl, ap, sym, subst, if◌then◌else◌, inl, inr}
+use Rattle.std.proofs.Common.{◌≡◌, ◌∙◌, ◌==◌, ◌&&◌, not, ℕ, Bool, true, false, List, [], ◌∷◌, Option, Some, None, find, refl, ap, sym, if◌then◌else◌, inl, inr}
 use Rattle.std.proofs.lemmas.Bool.{cases_Bool, eqb-true, eq-eqb}
 use Rattle.lf_model.proofs.LineLemmas.{or_case, or_left, or_right}
 use Rattle.std.specs.List.{list_any}
 use Rattle.std.specs.Option.{option_map_or}
-use Rattle.lf_model.specs.Caches.Slot.{holds, has_wanted_words, has_struck_byte}
+use Rattle.lf_model.specs.Caches.Slot.{has_wanted_words, has_struck_byte}
 use Rattle.lf_model.specs.Caches.Cache.{Cache, slot_at}
-use Rattle.lf_model.specs.Caches.Look.{Checked, Looked, LookUp, look_in, look_by}
+use Rattle.lf_model.specs.Caches.Look.{Checked, Looked, look_in, look_by}
 use Rattle.lf_model.specs.Caches.Residence.{is_hit_in}
 
 pub true_not_false : true ≡ false → ⊥

@@ -10,3 +10,6 @@ pub mod CheckLemmas
 pub mod LineLemmas
 pub mod HitLemmas
 pub mod ResidenceLaw
+pub mod TagLemmas
+pub mod FillLemmas
+pub mod Resident

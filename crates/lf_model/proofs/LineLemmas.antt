@@ -1,5 +1,5 @@
 -- The tag bytes and the set of an address tell its line; a slot is of one set.
-use Rattle.std.proofs.Common.{◌≡◌, ◌∙◌, ◌+◌, ◌-◌, ◌*◌, ◌/◌, ◌%◌, ◌^◌, ◌==◌, ◌||◌, ◌≤◌, ◌<◌, ◌⊎◌, nat_lt, ℕ, zero, suc, Bool, true, false, List, [], ◌∷◌, refl, ap, sym, arith, inl, inr}
+use Rattle.std.proofs.Common.{◌≡◌, ◌∙◌, ◌+◌, ◌-◌, ◌*◌, ◌/◌, ◌%◌, ◌^◌, ◌==◌, ◌||◌, ◌≤◌, ◌<◌, ◌⊎◌, nat_lt, ℕ, zero, suc, Bool, true, false, refl, ap, sym, arith, inl, inr}
 use Rattle.std.proofs.Math.Nat.{mod-mod_of_dvd, mul-le-mul_right, suc-mul}
 use Rattle.std.proofs.lemmas.Nat.Gcd.{dvd_of_mod-eq-zero}
 use Rattle.std.proofs.lemmas.Bool.{cases_Bool, eqb-true, eq-eqb}

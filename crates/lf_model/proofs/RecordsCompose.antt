@@ -1,6 +1,6 @@
 -- The records of cores and bus together: where each transfer is right as its master's record and the bus's say, the run of all
 -- masters makes just these transfers, with these words in memory and this walk of the scrubber.
-use Rattle.std.proofs.Common.{◌≡◌, ◌∙◌, ◌+◌, ◌==◌, ◌++◌, ℕ, zero, suc, Bool, true, false, List, [], ◌∷◌, Option, Some, None, length, fold, map, refl, ap, sym, subst, arith, if◌then◌else◌}
+use Rattle.std.proofs.Common.{◌≡◌, ◌∙◌, ◌+◌, ◌==◌, ◌++◌, ℕ, true, false, List, [], ◌∷◌, Option, Some, None, length, fold, map, refl, ap, sym, subst, arith}
 use Rattle.std.proofs.lemmas.Bool.{eq-eqb}
 use Rattle.std.proofs.lemmas.List.{append_assoc, append-nil, length-append}
 use Rattle.std.proofs.lemmas.List.Sums.{fold-append}
@@ -9,8 +9,8 @@ use Rattle.std.proofs.lemmas.Simd.{map-map}
 use Rattle.std.specs.List.{slice_get}
 use Rattle.std.specs.Option.{option_map}
 use Rattle.lf_model.proofs.ReplayLemmas.{made_in, made_from, core_over, core_after_all, cores_after}
-use Rattle.lf_model.specs.Bus.Replay.{Core, Made, Replay, core_start, name_of, replay_start, made_at, made_by_core, made_by_scrubber, made_turn, replay_turn}
-use Rattle.lf_model.specs.Bus.Walk.{Walk, scrubber, next_transfer, walk_start, walk_by, walk_after}
+use Rattle.lf_model.specs.Bus.Replay.{Core, Made, Replay, core_start, name_of, replay_start, made_by_core, made_by_scrubber, made_turn, replay_turn}
+use Rattle.lf_model.specs.Bus.Walk.{scrubber, next_transfer, walk_start, walk_by, walk_after}
 use Rattle.lf_model.specs.Bus.Words.{Word, words_begun, answered, words_after}
 use Rattle.lf_model.specs.Course.Core.{Ground}
 use Rattle.lf_model.specs.Course.Course.{up_to, course}

@@ -1,15 +1,13 @@
 -- The run of all masters: each of its cores is that core's course over the transfers that were made, and where every transfer
 -- reported is the one made, these are the transfers reported.
-use Rattle.std.proofs.Common.{◌≡◌, ◌∙◌, ◌++◌, ℕ, List, [], ◌∷◌, fold, map, refl, ap, sym}
+use Rattle.std.proofs.Common.{◌≡◌, ◌∙◌, ◌++◌, List, [], ◌∷◌, fold, map, refl, ap, sym}
 use Rattle.std.proofs.lemmas.List.{append_assoc, append-nil, map-append, map-id}
 use Rattle.std.proofs.lemmas.Simd.{map-map}
-use Rattle.std.proofs.lemmas.List.Sums.{fold-append}
-use Rattle.lf_model.specs.Bus.Replay.{Core, Made, Replay, core_start, core_after, replay_start, made_turn, replay_turn}
+use Rattle.lf_model.specs.Bus.Replay.{Core, Replay, core_start, core_after, replay_start, made_turn, replay_turn}
 use Rattle.lf_model.specs.Bus.Words.{words_begun}
 use Rattle.lf_model.specs.Course.Core.{Ground}
 use Rattle.lf_model.specs.Course.Course.{observe, course}
-use Rattle.lf_model.specs.Course.Progress.{start}
-use Rattle.lf_model.specs.Ledger.Account.{transfer_made}
+use Rattle.lf_model.specs.Ledger.Account.{transfer_made, without_length}
 use Rattle.lf_model.specs.declared.bus.Transfer.{Transfer}
 use Rattle.lf_model.specs.declared.setup.Setup.{Setup}
 
@@ -67,3 +65,12 @@ module _ (setup : Setup) where
       → ((pre post : List Transfer) (t : Transfer) → ts ≡ pre ++ t ∷ post → made_in (fold (replay_turn setup) r pre) t ≡ t) → made_from r ts ≡ ts
   made_as_reported r [] each = refl
   made_as_reported r (t ∷ ts) each = rw (each [] ts t refl, made_as_reported (replay_turn setup r t) ts (λ pre post u split. each (t ∷ pre) post u (ap (λ us. t ∷ us) split))) refl
+
+  -- the run of all masters doesn't look at the lengths that transfers report
+  pub turn_without_length : (r : Replay) (t : Transfer) → replay_turn setup r (without_length t) ≡ replay_turn setup r t
+  unfolding replay_turn made_turn
+  turn_without_length r t = refl
+
+  pub turns_without_length : (r : Replay) (ts : List Transfer) → fold (replay_turn setup) r (map without_length ts) ≡ fold (replay_turn setup) r ts
+  turns_without_length r [] = refl
+  turns_without_length r (t ∷ ts) = ap (λ q. fold (replay_turn setup) q (map without_length ts)) (turn_without_length r t) ∙ turns_without_length (replay_turn setup r t) ts

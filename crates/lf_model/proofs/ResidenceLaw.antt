@@ -1,17 +1,16 @@
 -- A look-up hits exactly where the wanted words are resident.
-use Rattle.std.proofs.Common.{◌≡◌, ◌∙◌, ◌+◌, ◌-◌, ◌*◌, ◌/◌, ◌%◌, ◌^◌, ◌==◌, ◌&&◌, ◌||◌, ◌≤◌, ◌<◌, ◌⊎◌, not, nat_lt, ℕ, zero, suc, Bool, true, false, List, [], ◌∷◌, Option, Some, None, find, map, length, replicate, fold, refl, ap, sym, subst, arith, if◌then◌else◌, inl, inr, slice_index}
+use Rattle.std.proofs.Common.{◌≡◌, ◌∙◌, ◌+◌, ◌*◌, ◌/◌, ◌%◌, ◌^◌, ◌==◌, ◌&&◌, ◌≤◌, ◌<◌, ◌⊎◌, not, ℕ, zero, suc, Bool, true, false, List, [], ◌∷◌, Option, Some, None, map, length, refl, ap, sym, arith, if◌then◌else◌, inl, inr, slice_index}
 use Rattle.std.proofs.lemmas.Bool.{cases_Bool, eqb-true, eq-eqb}
-use Rattle.std.proofs.lemmas.List.{get_or-set_same, get_or-set_other, get_or_past, length-set}
 use Rattle.std.proofs.lemmas.Nat.Bits.{bit_at-zero}
 use Rattle.std.specs.Int.{bit_at}
-use Rattle.std.specs.List.{list_all, list_any, range_with_len, AllByRecursion}
-use Rattle.std.specs.Option.{option_map_or, option_or}
-use Rattle.lf_model.proofs.CheckLemmas.{slot_same, slot_other, slot_past, check_slot, check_all, check_shape}
+use Rattle.std.specs.List.{list_all, list_any, range_with_len}
+use Rattle.std.specs.Option.{option_map_or}
+use Rattle.lf_model.proofs.CheckLemmas.{check_slot, check_all, check_shape}
 use Rattle.lf_model.proofs.HitLemmas.{true_not_false, and_false, and_true, both, same_bools, find_one, find_passes, good_words, hit_by}
-use Rattle.lf_model.proofs.LineLemmas.{same_line, among, is_among, same_set}
+use Rattle.lf_model.proofs.LineLemmas.{same_line, among, same_set}
 use Rattle.lf_model.specs.Caches.Slot.{Slot, empty_slot, empty_tag, tag_of, line_of, holds, wanted_words, has_wanted_words, has_struck_tag, has_struck_byte, written, checked_byte, dropped_by_tag}
-use Rattle.lf_model.specs.Caches.Cache.{Cache, slot_at, with_slot, set_of, matching, used}
-use Rattle.lf_model.specs.Caches.Look.{Checked, Looked, check_way, checked, look_by, look}
+use Rattle.lf_model.specs.Caches.Cache.{Cache, slot_at, set_of, matching}
+use Rattle.lf_model.specs.Caches.Look.{checked, look}
 use Rattle.lf_model.specs.Caches.Residence.{LineFill, IsShape, after_check, is_in_set, check_drops, fill_has, is_hit_in}
 use Rattle.lf_model.specs.Flips.{Moment, is_struck_byte}
 use Rattle.lf_model.specs.declared.config.Shape.{Shape}
@@ -66,9 +65,9 @@ module _ (shape : Shape) (ok : IsShape shape) where
       let q = both _ (f.line / 2 ^ 8 % 256 == addr / 2 ^ 8 % 256) p.1 in
       let r = both (f.line / 2 ^ 24 % 256 == addr / 2 ^ 24 % 256) _ q.0 in
       let line = same_line f.line addr shape.sets placed.bound bound ok.by_eight
-          (eqb-true (f.line / 2 ^ 24 % 256) (addr / 2 ^ 24 % 256) r.0) (eqb-true (f.line / 2 ^ 16 % 256) (addr / 2 ^ 16 % 256) r.1)
-          (eqb-true (f.line / 2 ^ 8 % 256) (addr / 2 ^ 8 % 256) q.1)
-          (same_set (f.line / 32 % shape.sets) (addr / 32 % shape.sets) shape.ways i placed.set.from placed.set.below set.from set.below) in
+      (eqb-true (f.line / 2 ^ 24 % 256) (addr / 2 ^ 24 % 256) r.0) (eqb-true (f.line / 2 ^ 16 % 256) (addr / 2 ^ 16 % 256) r.1)
+      (eqb-true (f.line / 2 ^ 8 % 256) (addr / 2 ^ 8 % 256) q.1)
+      (same_set (f.line / 32 % shape.sets) (addr / 32 % shape.sets) shape.ways i placed.set.from placed.set.below set.from set.below) in
       omega (arith, line, placed.aligned)
 
   line_tagged : (addr : ℕ) (f : LineFill) → (f.valid == 0) ≡ false → f.line ≡ line_of addr → has_tag addr (tag_by (Some f)) ≡ true
@@ -101,6 +100,7 @@ module _ (shape : Shape) (ok : IsShape shape) where
     where
       not_some : (f : LineFill) → None ≡ Some f → ⊥
       not_some f e = absurd cc
+
       was : (addr i : ℕ) → holds addr (slot_at i d) ≡ true → holds addr (slot_at i c) ≡ true
       was addr i at_i = elim (less i) [
         | inl same ↦ ap (has_tag addr) (h.tags i ∙ (ap tag_by (sym same) ∙ sym (tags i))) ∙ at_i
@@ -119,15 +119,15 @@ module _ (shape : Shape) (ok : IsShape shape) where
   pub fits_checked : (addr : ℕ) (c : Cache) (F : ℕ → Option LineFill) → Fits c F → Fits (after_check addr c) (checked_fill addr c F)
   fits_checked addr c F h = let kept = check_shape has_struck_tag dropped_by_tag refl fixed (set_of addr c) (record { dropped = false; cache = c }) in
       fits_less c (after_check addr c) F (checked_fill addr c F) h kept.0 kept.1
-          (λ i. ap (λ (s : Slot). s.tag) (after_slot addr i c) ∙ pick_tag (check_drops addr c i) (slot_at i c) (F i) (h.tags i))
-          (λ i. less_if (check_drops addr c i) (F i))
+      (λ i. ap (λ (s : Slot). s.tag) (after_slot addr i c) ∙ pick_tag (check_drops addr c i) (slot_at i c) (F i) (h.tags i))
+      (λ i. less_if (check_drops addr c i) (F i))
 
   -- ---- the line that matches
 
   abbrev pub in_set : ℕ → Shape → ℕ → Bool
   in_set addr s i = list_any (λ j. j == i) (range_with_len (addr / 32 % s.sets * s.ways) s.ways)
 
-  set_is : (addr i : ℕ) (c : Cache) (F : ℕ → Option LineFill) → Fits c F → is_in_set addr c i ≡ in_set addr shape i
+  pub set_is : (addr i : ℕ) (c : Cache) (F : ℕ → Option LineFill) → Fits c F → is_in_set addr c i ≡ in_set addr shape i
   set_is addr i c F h = ap (λ s. in_set addr s i) h.shaped
 
   pub set_holds : (addr i : ℕ) (c : Cache) (F : ℕ → Option LineFill) → Fits c F → is_in_set addr c i ≡ true → InSet addr i
@@ -137,7 +137,7 @@ module _ (shape : Shape) (ok : IsShape shape) where
       → option_map_or (λ j. j == i) (matching addr c) false ≡ holds addr (slot_at i c)
   match_is addr i c F h e = elim (cases_Bool (holds addr (slot_at i c))) [
     | inl present ↦ ap (λ m. option_map_or (λ j. j == i) m false) (find_one (λ j. holds addr (slot_at j c)) i (set_of addr c) e present
-            (λ j among_set at_j. h.apart addr j i (set_holds addr j c F h among_set) (set_holds addr i c F h e) at_j present))
+        (λ j among_set at_j. h.apart addr j i (set_holds addr j c F h among_set) (set_holds addr i c F h e) at_j present))
         ∙ (eq-eqb i i refl ∙ sym present)
     | inr absent ↦ by_found absent (matching addr c) refl ∙ sym absent
   ]
@@ -167,8 +167,8 @@ module _ (shape : Shape) (ok : IsShape shape) where
   fill_words addr len i f true e bound some set placed =
       and_true (has_tag addr (tag_by (Some f)))
       ∙ (same_bools (has_tag addr (tag_by (Some f))) (f.line == line_of addr)
-          (λ tagged. eq-eqb f.line (line_of addr) (line_same addr i f bound set placed tagged))
-          (λ same. line_tagged addr f (nonzero f.valid (addr / 4 % 8) ((len + 3) / 4) (omega (arith, some)) e) (eqb-true f.line (line_of addr) same))
+      (λ tagged. eq-eqb f.line (line_of addr) (line_same addr i f bound set placed tagged))
+      (λ same. line_tagged addr f (nonzero f.valid (addr / 4 % 8) ((len + 3) / 4) (omega (arith, some)) e) (eqb-true f.line (line_of addr) same))
       ∙ sym (and_true (f.line == line_of addr)))
 
   by_fill : (addr len i : ℕ) (f : Option LineFill) → ((g : LineFill) → f ≡ Some g → Placed g i) → addr < 2 ^ 32 → 1 ≤ len → InSet addr i
@@ -209,4 +209,4 @@ module _ (shape : Shape) (ok : IsShape shape) where
       hit_by addr len i (checked addr c) (matching addr (after_check addr c))
       ∙ (ap (λ b. b && good_words addr len (after_check addr c) i) (match_is addr i (after_check addr c) (checked_fill addr c F) g (set_is addr i (after_check addr c) (checked_fill addr c F) g ∙ (sym (set_is addr i c F h) ∙ e)))
       ∙ by_struck addr len i c F h bound some set (has_struck_tag (slot_at i c)) (slot_at i (after_check addr c))
-          (after_slot addr i c ∙ ap (λ of_set. check_slot has_struck_tag dropped_by_tag refl fixed of_set (slot_at i c)) e))
+      (after_slot addr i c ∙ ap (λ of_set. check_slot has_struck_tag dropped_by_tag refl fixed of_set (slot_at i c)) e))

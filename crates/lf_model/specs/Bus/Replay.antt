@@ -1,7 +1,7 @@
 -- The run of all masters over the transfers of a trace. Of a core's transfer it takes master, step, kind and cause, and of the
 -- scrubber's the master; all else it makes itself: each address by the core or the walk, and what memory answers by the
 -- histories of the words.
-use Rattle.std.specs.Prelude.{ℕ, ◌+◌, ◌-◌, ◌*◌, ◌==◌, List, [], ◌∷◌, ◌++◌, map, fold, Option, Some, None, option_map, slice_get, if◌then◌else◌}
+use Rattle.std.specs.Prelude.{ℕ, ◌+◌, ◌*◌, ◌==◌, List, [], ◌∷◌, ◌++◌, map, fold, Option, Some, None, option_map, slice_get, if◌then◌else◌}
 use Rattle.lf_model.specs.Bus.Walk.{Walk, scrubber, walk_start, next_transfer, walked}
 use Rattle.lf_model.specs.Bus.Words.{Word, words_struck, words_begun, word_of, answered, words_after}
 use Rattle.lf_model.specs.Course.Core.{Ground, is_stop_at}
@@ -10,7 +10,7 @@ use Rattle.lf_model.specs.Course.Outcome.{Need}
 use Rattle.lf_model.specs.Course.Outcome.Need.{NoTurn}
 use Rattle.lf_model.specs.Course.Progress.{Progress, start}
 use Rattle.lf_model.specs.Course.Syndromes.{enters_log}
-use Rattle.lf_model.specs.Course.Turn.{Place, place_of, addressed, addressed_at, turn_attempt, turn_needs}
+use Rattle.lf_model.specs.Course.Turn.{Target, target_of, addressed, turn_attempt, turn_needs}
 use Rattle.lf_model.specs.Course.Turned.{bad_wanted}
 use Rattle.lf_model.specs.Effect.{Effect}
 use Rattle.lf_model.specs.Run.{effect_at_pc}
@@ -56,14 +56,14 @@ replay_start setup grounds = record {
 
 -- ---- a turn of a core
 
-abbrev pub entry_of : Ground → Transfer → Place → Option LogEntry
+abbrev pub entry_of : Ground → Transfer → Target → Option LogEntry
 entry_of g t p = if enters_log t then Some (record { core = g.core; number = p.number }) else None
 
 -- the word that the core's stop names, if this turn is its place
 abbrev pub name_of : Ground → Transfer → Option ℕ → Option ℕ
 name_of g t bad = if is_stop_at t.turn g.end then option_map (λ j. word_of t.addr + 4 * j) bad else None
 
-abbrev pub entry_at : Ground → Transfer → Option Place → Option LogEntry
+abbrev pub entry_at : Ground → Transfer → Option Target → Option LogEntry
 entry_at g t None = None
 entry_at g t (Some p) = entry_of g t p
 
@@ -72,7 +72,7 @@ abbrev pub made_of : Ground → Effect → Progress → Transfer → Transfer �
 made_of g e k reported t = record {
   transfer = t;
   need = turn_needs g reported.why (turn_attempt g reported.why e k) k;
-  entry = entry_at g t (place_of g k e t.kind);
+  entry = entry_at g t (target_of g k e t.kind);
   named = name_of g t (bad_wanted k.run.state.ctl.pc e t);
 }
 

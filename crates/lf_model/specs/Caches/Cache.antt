@@ -1,6 +1,6 @@
 -- A cache: its slots, set by set, and its counters of parity errors (GRLIB, LEON3FT, cache subsystem). That the counters stop
 -- at 3 is this machine's own.
-use Rattle.std.specs.Prelude.{ℕ, ◌+◌, ◌*◌, ◌/◌, ◌%◌, nat_lt, Bool, List, Option, find, replicate, slice_index_or, slice_set, if◌then◌else◌}
+use Rattle.std.specs.Prelude.{ℕ, ◌+◌, ◌*◌, ◌/◌, ◌%◌, nat_lt, List, Option, find, replicate, slice_index_or, slice_set, if◌then◌else◌}
 use Rattle.std.specs.List.{range_with_len}
 use Rattle.lf_model.specs.Caches.Slot.{Slot, empty_slot, holds}
 use Rattle.lf_model.specs.declared.config.Shape.{Shape}

@@ -1,6 +1,6 @@
 -- What else is done to a cache: an own store updates it, a store of another core drops a line, a fill puts one in, and FLUSH
 -- empties it (GRLIB, LEON3FT, cache subsystem). The rules are this machine's own.
-use Rattle.std.specs.Prelude.{ℕ, ◌+◌, ◌/◌, ◌%◌, nat_lt, not, List, Option, Some, None, find, filter, fold, map, unwrap_or, if◌then◌else◌}
+use Rattle.std.specs.Prelude.{ℕ, ◌/◌, ◌%◌, nat_lt, not, List, Option, Some, None, find, filter, fold, map, unwrap_or, if◌then◌else◌}
 use Rattle.std.specs.List.{range_with_len}
 use Rattle.std.specs.Option.{option_or}
 use Rattle.lf_model.specs.Caches.Slot.{Slot, is_present, is_valid_word, befalls_each, written, dropped, filled_slot}

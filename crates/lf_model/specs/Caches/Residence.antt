@@ -1,7 +1,7 @@
 -- Residence in plain words: a look-up hits in a slot exactly where the wanted words are valid words of the last fill of that slot,
 -- which was of that line and was not dropped or flushed since, no tag byte of the slot is struck, and none of the bytes of these
 -- words is. This is a law about caches, over all that was done to one since reset.
-use Rattle.std.specs.Prelude.{ℕ, ◌≡◌, ◌≤◌, ◌<◌, ◌+◌, ◌*◌, ◌%◌, ◌^◌, ◌==◌, ◌&&◌, ◌||◌, not, Bool, true, false, List, [], ◌∷◌, Option, Some, None, if◌then◌else◌}
+use Rattle.std.specs.Prelude.{ℕ, ◌≡◌, ◌≤◌, ◌<◌, ◌%◌, ◌^◌, ◌==◌, ◌&&◌, ◌||◌, not, Bool, true, false, List, [], ◌∷◌, Option, Some, None, if◌then◌else◌}
 use Rattle.std.specs.Int.{bit_at}
 use Rattle.std.specs.List.{AllByRecursion, list_all, list_any}
 use Rattle.std.specs.Option.{option_map_or, option_or}
@@ -83,7 +83,7 @@ pub record LineFill : Type 0 where
 
 -- what an act fills into slot i
 abbrev pub fills : Cache → ℕ → Act → Option LineFill
-fills cache i (AFill addr valid) = if i == victim addr cache then Some (record { line = line_of addr; valid = valid }) else None
+fills cache i (AFill addr valid) = if victim addr cache == i then Some (record { line = line_of addr; valid = valid }) else None
 fills cache i (ALook addr len) = None
 fills cache i (AStore addr len) = None
 fills cache i (ASnoop addr) = None

@@ -1,6 +1,6 @@
 -- What the course of a core goes by: the setup, the core's number, the numbers that its operations read and the stores that it
 -- makes, and how and when it ends.
-use Rattle.std.specs.Prelude.{ℕ, ◌==◌, ◌&&◌, ◌||◌, not, Bool, true, false, List, filter, map}
+use Rattle.std.specs.Prelude.{ℕ, ◌==◌, ◌&&◌, ◌||◌, Bool, true, false, List, filter, map}
 use Rattle.lf_model.specs.Execution.{answers_of}
 use Rattle.lf_model.specs.Operation.{made}
 use Rattle.lf_model.specs.Strikes.{numbered_flips}

@@ -12,7 +12,7 @@ use Rattle.lf_model.specs.Course.Outcome.Need.{NoTurn, Turn, RegisterStop}
 use Rattle.lf_model.specs.Course.Outcome.Outcome.{NotTried, NoText, FetchMiss, BadRegister, OrdinaryTrap, LoadMiss, LoadHit, Store, Atomic, Barrier, Other}
 use Rattle.lf_model.specs.Course.Progress.{ErrorTrap, Progress, next_needs, retired_if}
 use Rattle.lf_model.specs.Effect.{Access, Effect}
-use Rattle.lf_model.specs.Flips.{Moment, syndrome}
+use Rattle.lf_model.specs.Flips.{syndrome}
 use Rattle.lf_model.specs.Flips.Moment.{Named}
 use Rattle.lf_model.specs.Names.{same_why}
 use Rattle.lf_model.specs.Run.{effect_at_pc}

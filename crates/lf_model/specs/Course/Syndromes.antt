@@ -1,5 +1,5 @@
 -- What a transfer shows of the words that it read: their syndromes, by which each of them was clean, fixed or bad.
-use Rattle.std.specs.Prelude.{ℕ, ◌+◌, ◌-◌, ◌*◌, ◌/◌, ◌%◌, ◌^◌, ◌==◌, ◌&&◌, not, Bool, List, [], ◌∷◌, length, map, fold, slice_index, if◌then◌else◌}
+use Rattle.std.specs.Prelude.{ℕ, ◌+◌, ◌-◌, ◌*◌, ◌/◌, ◌%◌, ◌^◌, ◌==◌, ◌&&◌, not, Bool, List, length, map, fold, slice_index}
 use Rattle.std.specs.List.{list_any, range_with_len}
 use Rattle.lf_num.specs.Columns.{columns}
 use Rattle.lf_model.specs.TransferLines.{makes_entry}

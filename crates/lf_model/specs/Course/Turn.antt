@@ -2,7 +2,7 @@
 -- address the transfer is.
 use Rattle.std.specs.Prelude.{ℕ, ◌||◌, nat_le, Bool, List, fold, length, Option, Some, None, option_map, slice_get, if◌then◌else◌}
 use Rattle.lf_model.specs.Caches.Slot.{line_of}
-use Rattle.lf_model.specs.Caches.Cache.{Cache, way_of}
+use Rattle.lf_model.specs.Caches.Cache.{way_of}
 use Rattle.lf_model.specs.Caches.Change.{snooped, victim}
 use Rattle.lf_model.specs.Course.Arrays.{Arrays, begun}
 use Rattle.lf_model.specs.Course.Attempt.{Attempt, comes_to, attempt}
@@ -57,44 +57,44 @@ arrays_before g why e k = caught_up k.unseen (turn_attempt g why e k).arrays
 -- ---- where the transfer is
 
 -- its address and length, and, of a store or an atomic, the number of the operation
-pub record Place : Type 0 where
+pub record Target : Type 0 where
   pub addr : ℕ
   pub len : ℕ
   pub number : ℕ
 
-abbrev pub line_place : ℕ → Place
-line_place addr = record { addr = line_of addr; len = 0; number = 0 }
+abbrev pub line_target : ℕ → Target
+line_target addr = record { addr = line_of addr; len = 0; number = 0 }
 
-abbrev pub store_place : Entry → Place
-store_place entry = record { addr = entry.addr; len = entry.len; number = entry.k }
+abbrev pub store_target : Entry → Target
+store_target entry = record { addr = entry.addr; len = entry.len; number = entry.k }
 
--- the place of a load's fill, and of an atomic, by the operation that the instruction makes
-abbrev pub load_place : Access → OpKind → Option Place
-load_place x ops.Load = Some (line_place x.addr)
-load_place x ops.Store = None
-load_place x ops.Atomic = None
-load_place x ops.Lost = None
+-- the target of a load's fill, and of an atomic, by the operation that the instruction makes
+abbrev pub load_target : Access → OpKind → Option Target
+load_target x ops.Load = Some (line_target x.addr)
+load_target x ops.Store = None
+load_target x ops.Atomic = None
+load_target x ops.Lost = None
 
-abbrev pub atomic_place : ℕ → Access → OpKind → Option Place
-atomic_place number x ops.Load = None
-atomic_place number x ops.Store = None
-atomic_place number x ops.Atomic = Some (record { addr = x.addr; len = x.len; number = number })
-atomic_place number x ops.Lost = None
+abbrev pub atomic_target : ℕ → Access → OpKind → Option Target
+atomic_target number x ops.Load = None
+atomic_target number x ops.Store = None
+atomic_target number x ops.Atomic = Some (record { addr = x.addr; len = x.len; number = number })
+atomic_target number x ops.Lost = None
 
-abbrev pub place_by : (Access → OpKind → Option Place) → Option Access → Option Place
-place_by place None = None
-place_by place (Some x) = place x x.kind
+abbrev pub target_by : (Access → OpKind → Option Target) → Option Access → Option Target
+target_by target None = None
+target_by target (Some x) = target x x.kind
 
 -- where a transfer of this kind is: none where it only catches up, as a fill or an atomic that the instruction at PC doesn't
 -- make, and a store after the last one
-abbrev pub place_of : Ground → Progress → Effect → TurnKind → Option Place
-place_of g k e Fetch = if is_text_word g.setup.image.text k.run.state.ctl.pc then Some (line_place k.run.state.ctl.pc) else None
-place_of g k e Load = place_by load_place e.access
-place_of g k e Store = option_map store_place (slice_get g.given.stores k.drained)
-place_of g k e Atomic = place_by (atomic_place (length k.run.ops)) e.access
-place_of g k e Snoop = None
-place_of g k e Look = None
-place_of g k e Fix = None
+abbrev pub target_of : Ground → Progress → Effect → TurnKind → Option Target
+target_of g k e Fetch = if is_text_word g.setup.image.text k.run.state.ctl.pc then Some (line_target k.run.state.ctl.pc) else None
+target_of g k e Load = target_by load_target e.access
+target_of g k e Store = option_map store_target (slice_get g.given.stores k.drained)
+target_of g k e Atomic = target_by (atomic_target (length k.run.ops)) e.access
+target_of g k e Snoop = None
+target_of g k e Look = None
+target_of g k e Fix = None
 
 -- the way that a fill takes
 abbrev pub fill_way : ℕ → Arrays → TurnKind → ℕ
@@ -106,10 +106,10 @@ fill_way addr a Snoop = 0
 fill_way addr a Look = 0
 fill_way addr a Fix = 0
 
-abbrev pub addressed_at : Ground → Effect → Progress → Transfer → Option Place → Transfer
+abbrev pub addressed_at : Ground → Effect → Progress → Transfer → Option Target → Transfer
 addressed_at g e k t None = record t { addr = 0; way = 0; words = 0; syn = 0; len = 0 }
 addressed_at g e k t (Some p) = record t { addr = p.addr; way = fill_way p.addr (arrays_before g t.why e k) t.kind; words = 0; syn = 0; len = p.len }
 
 -- the transfer with its address, length and way, before memory answers
 abbrev pub addressed : Ground → Effect → Progress → Transfer → Transfer
-addressed g e k t = addressed_at g e k t (place_of g k e t.kind)
+addressed g e k t = addressed_at g e k t (target_of g k e t.kind)

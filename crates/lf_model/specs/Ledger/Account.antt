@@ -1,5 +1,5 @@
 -- The account of a trace: that which its masters give, and that which it reports. They have to be the same.
-use Rattle.std.specs.Prelude.{ℕ, ◌==◌, Bool, List, [], ◌∷◌, ◌++◌, length, map, count_by, is_none, Option, Some, None, option_map, slice_get, if◌then◌else◌}
+use Rattle.std.specs.Prelude.{ℕ, ◌==◌, Bool, List, map, count_by, is_none, Option, option_map, slice_get, if◌then◌else◌}
 use Rattle.std.specs.List.{enumerate_from, filter_map}
 use Rattle.lf_model.specs.Bus.Replay.{Core, LogEntry, Made, Replay, replay}
 use Rattle.lf_model.specs.Bus.Status.{AhbStatus, status_after}

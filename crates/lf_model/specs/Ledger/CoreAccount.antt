@@ -1,6 +1,6 @@
 -- What there is to account for of one core: that no step owes a turn, the error traps that it met, its lost stores, its counters
 -- of parity errors, and the registers without a value.
-use Rattle.std.specs.Prelude.{ℕ, ◌-◌, ◌==◌, ◌&&◌, not, Bool, List, [], ◌∷◌, length, map, filter, is_none, slice_index_or, if◌then◌else◌}
+use Rattle.std.specs.Prelude.{ℕ, ◌-◌, ◌==◌, ◌&&◌, not, Bool, List, [], ◌∷◌, length, map, filter, is_none, if◌then◌else◌}
 use Rattle.std.specs.List.{range_with_len, zip}
 use Rattle.lf_model.specs.Caches.Slot.{history_at}
 use Rattle.lf_model.specs.Course.Arrays.{Arrays}

@@ -1,6 +1,6 @@
 -- What there is to account for of each place of the memory order: an operation's step and way, which entry of the log a store or
 -- an atomic is, how many entries come before a load, and that loads at one place, and lost stores, are sorted.
-use Rattle.std.specs.Prelude.{ℕ, ◌+◌, ◌==◌, ◌&&◌, ◌||◌, nat_lt, nat_le, Bool, true, List, [], ◌∷◌, ◌++◌, Option, Some, None, option_map, option_and_then, slice_get, if◌then◌else◌}
+use Rattle.std.specs.Prelude.{ℕ, ◌+◌, ◌==◌, ◌&&◌, ◌||◌, nat_lt, nat_le, Bool, true, List, [], ◌∷◌, Option, Some, None, option_map, option_and_then, slice_get, if◌then◌else◌}
 use Rattle.std.specs.List.{list_all}
 use Rattle.lf_model.specs.Bus.Replay.{LogEntry}
 use Rattle.lf_model.specs.Course.Progress.{Completion}

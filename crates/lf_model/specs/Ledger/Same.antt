@@ -1,5 +1,5 @@
 -- A test whether two accounts are the same, part by part.
-use Rattle.std.specs.Prelude.{ℕ, ◌==◌, ◌&&◌, Bool, true, false, List, [], ◌∷◌, Option, Some, None, if◌then◌else◌, not}
+use Rattle.std.specs.Prelude.{ℕ, ◌==◌, ◌&&◌, Bool, true, false, List, [], ◌∷◌, Option, Some, None, not}
 use Rattle.lf_model.specs.Bus.Replay.{LogEntry}
 use Rattle.lf_model.specs.Bus.Status.{AhbStatus}
 use Rattle.lf_model.specs.Course.Outcome.{Need}

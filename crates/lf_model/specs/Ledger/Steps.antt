@@ -1,6 +1,6 @@
 -- The steps of a core and its transfers: each step makes one at most, stores that still wait drain after the last step, and as
 -- many steps retire an instruction as were counted.
-use Rattle.std.specs.Prelude.{ℕ, ◌≡◌, ◌+◌, ◌-◌, ◌==◌, ◌&&◌, ◌||◌, nat_lt, nat_le, not, Bool, true, false, List, [], ◌∷◌, ◌++◌, length, map, filter, count_by}
+use Rattle.std.specs.Prelude.{ℕ, ◌≡◌, ◌+◌, ◌-◌, ◌==◌, ◌&&◌, ◌||◌, nat_lt, nat_le, not, Bool, true, false, List, [], ◌∷◌, ◌++◌, length, filter, count_by}
 use Rattle.std.specs.Int.{from_bool}
 use Rattle.std.specs.List.{list_all, list_any}
 use Rattle.lf_model.specs.Course.Core.{is_register_stop, is_stop_at}

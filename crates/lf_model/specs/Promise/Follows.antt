@@ -1,12 +1,12 @@
 -- A trace follows a schedule: its transfers come in the order of the schedule's events, each taken as often as it counts, and
 -- after the last one of a round of all actors, one step each, over and over until all have ended.
-use Rattle.std.specs.Prelude.{ℕ, zero, suc, ◌≡◌, ◌+◌, List, [], ◌∷◌, length, map, filter, fold, sum}
+use Rattle.std.specs.Prelude.{ℕ, zero, suc, ◌≡◌, ◌+◌, List, [], length, map, filter, fold, sum}
 use Rattle.std.specs.List.{range_with_len}
 use Rattle.lf_model.specs.Course.Core.{is_store}
 use Rattle.lf_model.specs.Execution.{program_order}
 use Rattle.lf_model.specs.Ledger.Account.{map_numbered}
 use Rattle.lf_model.specs.Ledger.Steps.{own_transfers}
-use Rattle.lf_model.specs.Promise.Turns.{CoreLeft, Actors, Turn, turn_reported, event_made}
+use Rattle.lf_model.specs.Promise.Turns.{CoreLeft, Actors, TurnMade, turn_reported, event_made}
 use Rattle.lf_model.specs.declared.setup.Actor.TheVariants.{Core, Scrub}
 use Rattle.lf_model.specs.declared.setup.Event.{Event}
 use Rattle.lf_model.specs.declared.setup.Setup.{Setup}
@@ -54,7 +54,7 @@ abbrev pub rounds_enough : Trace → ℕ
 rounds_enough trace = sum (map steps_of trace.cores) + length trace.transfers + 1
 
 -- the turns that a schedule gives
-unfoldable pub turns_of : Setup → List Event → Trace → List Turn
+unfoldable pub turns_of : Setup → List Event → Trace → List TurnMade
 turns_of setup events trace = (rounds (rounds_enough trace) (fold scheduled (actors_at_start setup trace) events)).turns
 
 pub record Follows (setup : Setup) (events : List Event) (trace : Trace) : Type 0 where

@@ -1,13 +1,17 @@
 -- The headline: a trace is an upset-free execution of the image's code in total store order, it reports the results of that
 -- execution, and an error trap stopped a core only where a word or a register cell with two turned bits was met.
-use Rattle.std.specs.Prelude.{ℕ, ◌≡◌, ◌==◌, length, map, is_none, IfSome, slice_get, option_and_then}
-use Rattle.lf_model.specs.Bus.Replay.{Core, Replay}
-use Rattle.lf_model.specs.Execution.{IsExecution}
+use Rattle.std.specs.Prelude.{ℕ, ◌≡◌, length, map, is_none, IfSome, slice_get}
+use Rattle.lf_model.specs.Bus.Replay.{Core}
 use Rattle.lf_model.specs.Ledger.Account.{replay_of, is_bad_at}
 use Rattle.lf_model.specs.Ledger.CoreAccount.{blank_registers, errors_reported}
 use Rattle.lf_model.specs.Ledger.Steps.{own_transfers}
-use Rattle.lf_model.specs.Places.{FailsNowhere}
-use Rattle.lf_model.specs.Results.{HasResults}
+use Rattle.lf_model.specs.Once.{OnceAtCore, OnceAtOrder, OnceAtTransfer, OnceAtFinal}
+use Rattle.lf_model.specs.Order.{LoadOpAt, StoreStoreAt}
+use Rattle.lf_model.specs.Places.{FailsNowhere, FailsNowhereIn}
+use Rattle.lf_model.specs.Records.CoreRules.{ThreadAt, ResultAt}
+use Rattle.lf_model.specs.Results.{ResultAtFinal}
+use Rattle.lf_model.specs.Start.{initial_byte}
+use Rattle.lf_model.specs.Value.{ValueAt}
 use Rattle.lf_model.specs.declared.setup.Setup.{Setup}
 use Rattle.lf_model.specs.declared.trace.CoreResult.{CoreResult}
 use Rattle.lf_model.specs.declared.trace.Trace.{Trace}
@@ -32,9 +36,22 @@ BlankAt setup trace c = IfSome (slice_get trace.cores c) (λ r. IfSome (slice_ge
 abbrev pub WatchAt : Setup → Trace → ℕ → Type 0
 WatchAt setup trace i = IfSome (slice_get trace.watch i) (λ (word : Word2). is_none word.value ≡ is_bad_at (replay_of setup trace).words word.addr)
 
+-- a total-store-order execution of the image's code: the rules Once, LoadOp, StoreStore, Thread and Value fail nowhere
+pub record IsTsoExecution (setup : Setup) (trace : Trace) : Type 0 where
+  pub once_cores : FailsNowhere setup.config.cores (OnceAtCore trace.order)
+  pub once_order : FailsNowhereIn (OnceAtOrder setup.config.cores) trace.order
+  pub once_transfers : FailsNowhere (length trace.transfers) (OnceAtTransfer setup.config.cores trace.transfers)
+  pub once_final : OnceAtFinal setup trace
+  pub load_op : FailsNowhereIn LoadOpAt trace.order
+  pub store_store : FailsNowhereIn StoreStoreAt trace.order
+  pub thread : FailsNowhere setup.config.cores (ThreadAt setup trace)
+  pub value : FailsNowhereIn (ValueAt (initial_byte setup.image)) trace.order
+
+-- the execution, the results of each core and of the watched words, the causes of stops, and what has no value
 pub record Headline (setup : Setup) (trace : Trace) : Type 0 where
-  pub execution : IsExecution setup trace
-  pub results : HasResults setup trace
+  pub execution : IsTsoExecution setup trace
+  pub results : FailsNowhere setup.config.cores (ResultAt setup trace)
+  pub words : FailsNowhere (length trace.watch) (ResultAtFinal setup trace)
   pub stops : FailsNowhere setup.config.cores (StopCauseAt setup trace)
   pub blanks : FailsNowhere setup.config.cores (BlankAt setup trace)
   pub watched : FailsNowhere (length trace.watch) (WatchAt setup trace)

@@ -1,6 +1,6 @@
 -- Traces that a report can show: every number is in the range of its field, every field that no line shows is 0, and the bounds
 -- of a report hold.
-use Rattle.std.specs.Prelude.{ℕ, ◌≡◌, ◌≤◌, ◌*◌, ◌^◌, ◌==◌, ◌&&◌, ◌||◌, nat_lt, nat_le, Bool, true, List, length, map, Option, Some, None}
+use Rattle.std.specs.Prelude.{ℕ, ◌≡◌, ◌≤◌, ◌*◌, ◌^◌, ◌==◌, ◌&&◌, ◌||◌, nat_lt, nat_le, Bool, true, length, map, Option, Some, None}
 use Rattle.std.specs.List.{list_all, range_with_len}
 use Rattle.lf_model.specs.Promise.RegularTransfer.{fits_word, fits_byte, is_regular_transfer}
 use Rattle.lf_model.specs.declared.bus.OpKind.{OpKind}

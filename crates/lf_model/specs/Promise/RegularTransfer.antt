@@ -1,5 +1,5 @@
 -- Transfers whose fields are those that a line of a report can show; fields that no line shows are 0.
-use Rattle.std.specs.Prelude.{ℕ, ◌-◌, ◌*◌, ◌%◌, ◌^◌, ◌==◌, ◌&&◌, ◌||◌, nat_lt, Bool, true, List, [], ◌∷◌}
+use Rattle.std.specs.Prelude.{ℕ, ◌-◌, ◌*◌, ◌%◌, ◌^◌, ◌==◌, ◌&&◌, nat_lt, Bool, List, [], ◌∷◌}
 use Rattle.std.specs.List.{list_any}
 use Rattle.lf_model.specs.Names.{same_why}
 use Rattle.lf_model.specs.declared.bus.Transfer.{Transfer}

@@ -11,12 +11,12 @@ use Rattle.lf_model.specs.declared.setup.Actor.{Actor}
 use Rattle.lf_model.specs.declared.setup.Actor.TheVariants.{Core, Drain, Scrub}
 
 -- a turn on the bus: its master, and whether the schedule asked for a drain in one of the core's steps
-pub record Turn : Type 0 where
+pub record TurnMade : Type 0 where
   pub master : ℕ
   pub scheduled : Bool
 
 -- the turn that a transfer reports
-abbrev pub turn_reported : Transfer → Turn
+abbrev pub turn_reported : Transfer → TurnMade
 turn_reported t = record { master = t.master; scheduled = same_why t.why Sched }
 
 -- a core on its way: all its steps, the steps in which its stores retire, the steps that it made, the stores that it drained,
@@ -32,7 +32,7 @@ pub record CoreLeft : Type 0 where
 pub record Actors : Type 0 where
   pub cores : List CoreLeft
   pub scrub_turns : ℕ
-  pub turns : List Turn
+  pub turns : List TurnMade
 
 -- ---- a core
 
@@ -71,9 +71,9 @@ with_step c = record (if turns_in c.made c.transfers then with_turn c else c) { 
 -- what an event makes of a core: the core then, and the turn on the bus, if it makes one
 pub record Moved : Type 0 where
   pub core : CoreLeft
-  pub turn : Option Turn
+  pub turn : Option TurnMade
 
-abbrev pub turn_of : ℕ → Bool → Option Turn
+abbrev pub turn_of : ℕ → Bool → Option TurnMade
 turn_of master scheduled = Some (record { master = master; scheduled = scheduled })
 
 -- its next step, or the next drain after its last one
@@ -92,7 +92,7 @@ drain_moved n c = if has_ended c then record { core = c; turn = None }
 
 -- ---- all actors
 
-abbrev pub with_option : Option Turn → List Turn → List Turn
+abbrev pub with_option : Option TurnMade → List TurnMade → List TurnMade
 with_option None turns = turns
 with_option (Some turn) turns = turns ++ turn ∷ []
 

@@ -1,5 +1,5 @@
 -- The record that the bus leaves of its run is right: its log, its transfers, AHBSTAT and the fates of memory flips.
-use Rattle.std.specs.Prelude.{ℕ, ◌≡◌, ◌≤◌, ◌<◌, ◌+◌, ◌==◌, ◌&&◌, ◌||◌, not, Bool, true, List, [], length, map, filter, count_by, Option, None, if◌then◌else◌}
+use Rattle.std.specs.Prelude.{ℕ, ◌≡◌, ◌≤◌, ◌<◌, ◌+◌, ◌==◌, ◌||◌, not, Bool, true, List, length, map, filter, count_by, Option, None, if◌then◌else◌}
 use Rattle.std.specs.List.{list_all, range_with_len}
 use Rattle.lf_model.specs.Bus.Status.{AhbStatus, status_after}
 use Rattle.lf_model.specs.Bus.Walk.{scrubber}

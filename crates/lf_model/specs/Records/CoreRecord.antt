@@ -1,8 +1,8 @@
 -- The record that a core leaves of its run is right, beside the log and the transfers that the bus leaves.
-use Rattle.std.specs.Prelude.{ℕ, ◌≡◌, ◌==◌, ◌<◌, true, List, [], length, map, filter, Option, Some, None, if◌then◌else◌}
+use Rattle.std.specs.Prelude.{ℕ, ◌≡◌, ◌==◌, ◌<◌, true, List, [], length, map, Option, Some, None, if◌then◌else◌}
 use Rattle.std.specs.List.{list_all, zip}
 use Rattle.lf_model.specs.Course.Arrays.{Arrays}
-use Rattle.lf_model.specs.Course.Progress.{Completion, Progress}
+use Rattle.lf_model.specs.Course.Progress.{Completion}
 use Rattle.lf_model.specs.Ledger.CoreAccount.{core_by_course, core_as_reported}
 use Rattle.lf_model.specs.Ledger.FlipFate.{flip_fates}
 use Rattle.lf_model.specs.Ledger.Steps.{HasSteps, own_transfers}

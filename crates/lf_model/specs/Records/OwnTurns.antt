@@ -1,6 +1,6 @@
 -- The transfers of a core as the bus records them: each has the kind and cause that its step needed, and the address, the way
 -- and the length that the core gave it.
-use Rattle.std.specs.Prelude.{ℕ, ◌≡◌, ◌+◌, ◌*◌, ◌==◌, ◌&&◌, List, [], ◌∷◌, map, take, Option, Some, None, option_map, slice_get, IfSome, if◌then◌else◌}
+use Rattle.std.specs.Prelude.{ℕ, ◌≡◌, ◌+◌, ◌*◌, ◌==◌, ◌&&◌, List, [], take, Option, Some, None, option_map, slice_get, IfSome, if◌then◌else◌}
 use Rattle.std.specs.Option.{option_to_list}
 use Rattle.lf_model.specs.Bus.Words.{word_of}
 use Rattle.lf_model.specs.Course.Core.{Ground, is_stop_at}
