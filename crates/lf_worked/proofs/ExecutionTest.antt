@@ -74,10 +74,10 @@ store_store-sound earlier r later passes storing =
 
 -- ---- Value: byte by byte, over the bytes that a reader reads
 
-abbrev reads_byte : (ℕ → ℕ) → Entry → List Entry → ℕ → Bool
+abbrev pub reads_byte : (ℕ → ℕ) → Entry → List Entry → ℕ → Bool
 reads_byte initial r es j = byte_got (r.addr + j) r == stored (r.addr + j) es (initial (r.addr + j))
 
-reads_byte-sound : (initial : ℕ → ℕ) (r : Entry) (es : List Entry) → passes_below (reads_byte initial r es) r.len ≡ true → Reads initial r es
+pub reads_byte-sound : (initial : ℕ → ℕ) (r : Entry) (es : List Entry) → passes_below (reads_byte initial r es) r.len ≡ true → Reads initial r es
 reads_byte-sound initial r es passes a touched =
     let parts = and_parts (nat_le r.addr a) (nat_lt a (r.addr + r.len)) touched in
     let least = leb-true r.addr a parts.0 in
@@ -122,10 +122,10 @@ has_master-sound cores master Snoop passes = ltb-true master cores passes
 has_master-sound cores master Look passes = eqb-true master 8 passes
 has_master-sound cores master Fix passes = eqb-true master 8 passes
 
-abbrev once_transfer : ℕ → List Transfer → ℕ → Bool
+abbrev pub once_transfer : ℕ → List Transfer → ℕ → Bool
 once_transfer cores transfers i = option_map_or (λ t. has_master cores t.master t.kind) (slice_get transfers i) true
 
-once_transfer-sound : (cores : ℕ) (transfers : List Transfer) (i : ℕ) → once_transfer cores transfers i ≡ true → OnceAtTransfer cores transfers i
+pub once_transfer-sound : (cores : ℕ) (transfers : List Transfer) (i : ℕ) → once_transfer cores transfers i ≡ true → OnceAtTransfer cores transfers i
 once_transfer-sound cores transfers i passes =
     holds_if_some (λ t. has_master cores t.master t.kind) (λ t. HasMaster cores t.master t.kind)
     (λ t. has_master-sound cores t.master t.kind) (slice_get transfers i) passes

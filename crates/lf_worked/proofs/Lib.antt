@@ -5,6 +5,8 @@ mod ExecutionTest
 mod ResultsTest
 mod LedgerTest
 mod PromiseTest
+mod RecordTest
+mod RecordsTest
 mod Items
 mod ByteOut
 mod CorrectedLoad

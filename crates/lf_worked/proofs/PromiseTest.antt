@@ -27,13 +27,13 @@ use Rattle.lf_worked.proofs.ExecutionTest.{is_execution, execution}
 use Rattle.lf_worked.proofs.ResultsTest.{result_at, result_at-sound, word_at_end, word_at_end-sound}
 use Rattle.lf_worked.proofs.LedgerTest.{keeps_ledger, ledger}
 
-is_same_bool : (a b : Bool) → same_bool a b ≡ true → a ≡ b
+pub is_same_bool : (a b : Bool) → same_bool a b ≡ true → a ≡ b
 is_same_bool true true passes = refl
 is_same_bool false false passes = refl
 is_same_bool true false passes = absurd (false≢true passes)
 is_same_bool false true passes = absurd (false≢true passes)
 
-is_same_error : (a b : ErrorTrap) → same_error a b ≡ true → a ≡ b
+pub is_same_error : (a b : ErrorTrap) → same_error a b ≡ true → a ≡ b
 is_same_error a b passes =
     let trap_type = and_parts (a.trap_type == b.trap_type) _ passes in
     let place = and_parts (a.place == b.place) _ trap_type.1 in
