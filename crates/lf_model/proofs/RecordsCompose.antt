@@ -1,22 +1,26 @@
 -- The records of cores and bus together: where each transfer is right as its master's record and the bus's say, the run of all
 -- masters makes just these transfers, with these words in memory and this walk of the scrubber.
-use Rattle.std.proofs.Common.{◌≡◌, ◌∙◌, ◌+◌, ◌==◌, ◌++◌, ℕ, true, false, List, [], ◌∷◌, Option, Some, None, length, fold, map, refl, ap, sym, subst, arith}
+use Rattle.std.proofs.Common.{◌≡◌, ◌∙◌, ◌+◌, ◌==◌, ◌++◌, ℕ, Bool, true, false, List, [], ◌∷◌, Option, Some, None, length, fold, map, refl, ap, sym, subst, arith, if◌then◌else◌}
 use Rattle.std.proofs.lemmas.Bool.{eq-eqb}
-use Rattle.std.proofs.lemmas.List.{append_assoc, append-nil, length-append}
+use Rattle.std.proofs.lemmas.List.{append_assoc, append-nil, length-append, map-append}
 use Rattle.std.proofs.lemmas.List.Sums.{fold-append}
 use Rattle.std.proofs.lemmas.Option.{slice_get-map}
 use Rattle.std.proofs.lemmas.Simd.{map-map}
 use Rattle.std.specs.List.{slice_get}
 use Rattle.std.specs.Option.{option_map}
 use Rattle.lf_model.proofs.ReplayLemmas.{made_in, made_from, core_over, core_after_all, cores_after}
-use Rattle.lf_model.specs.Bus.Replay.{Core, Made, Replay, core_start, name_of, replay_start, made_by_core, made_by_scrubber, made_turn, replay_turn}
+use Rattle.lf_model.specs.Bus.Replay.{Core, Made, Replay, core_start, name_of, replay_start, made_by_core, made_by_scrubber, made_turn, replay_turn, core_finished, replay_finished}
 use Rattle.lf_model.specs.Bus.Walk.{scrubber, next_transfer, walk_start, walk_by, walk_after}
 use Rattle.lf_model.specs.Bus.Words.{Word, words_begun, answered, words_after}
 use Rattle.lf_model.specs.Course.Core.{Ground}
-use Rattle.lf_model.specs.Course.Course.{up_to, course}
+use Rattle.lf_model.specs.Course.Course.{up_to, course, finished}
+use Rattle.lf_model.specs.Course.Outcome.{Need}
+use Rattle.lf_model.specs.Course.Outcome.Need.{NoTurn, Turn}
 use Rattle.lf_model.specs.Course.Progress.{Progress}
 use Rattle.lf_model.specs.Course.Turn.{addressed}
 use Rattle.lf_model.specs.Course.Turned.{bad_wanted}
+use Rattle.lf_model.specs.Ledger.Account.{TurnAccount, without_length, turn_made, need_reported, turn_reported, core_account}
+use Rattle.lf_model.specs.Ledger.CoreAccount.{core_by_course}
 use Rattle.lf_model.specs.Records.BusMemory.{Memory, name_at, memory_start, memory_turn, memory_after}
 use Rattle.lf_model.specs.Records.OwnTurns.{IsRightTurn, next_effect}
 use Rattle.lf_model.specs.declared.bus.Transfer.{Transfer}
@@ -176,3 +180,42 @@ module _ (setup : Setup) (grounds : List Ground) (named : List Word2) where
       subst (λ us. Along us) (append_assoc pre (t ∷ []) ts)
       (along_all (pre ++ t ∷ []) ts (along_more pre t h first.0 first.1)
       (λ us vs u split. subst (λ ws. IsRight ws u × IsAnswered ws u) (sym (append_assoc pre (t ∷ []) us)) (each (t ∷ us) vs u (ap (λ ws. t ∷ ws) split))))
+
+  -- ---- what the accounts of the run are
+
+  -- what the step of each transfer needs is what it reports
+  pub need_made_right : (pre : List Transfer) (t : Transfer) → Along pre → IsRight pre t
+      → (made_turn (after pre) (words_begun setup.flips (after pre).turns (after pre).words) t).need ≡ need_reported t
+  need_made_right pre t h (ByScrubber master unnamed placed) =
+      ap (λ (m : Made). m.need) (by_scrubber (after pre) _ t (eq-eqb t.master scrubber master))
+      ∙ ap (λ (b : Bool). if b then NoTurn else Turn t.kind t.why) (sym (eq-eqb t.master scrubber master))
+  need_made_right pre t h (ByCore g other found right name) =
+      ap (λ (m : Made). m.need) (by_core (after pre) _ t (core_after_all setup pre g) other (core_along pre h t.master g found))
+      ∙ (right.needed ∙ ap (λ (b : Bool). if b then NoTurn else Turn t.kind t.why) (sym other))
+
+  turn_made_list : (r : Replay) (t : Transfer) → map turn_made (replay_turn setup r t).made
+      ≡ map turn_made r.made ++ turn_made (made_turn r (words_begun setup.flips r.turns r.words) t) ∷ []
+  unfolding replay_turn
+  turn_made_list r t = map-append turn_made r.made _
+
+  -- the account of a transfer as a trace reports it
+  abbrev pub account_reported : Transfer → TurnAccount
+  account_reported t = turn_reported (without_length t)
+
+  account_of : Transfer → Need → TurnAccount
+  account_of t need = record { transfer = without_length t; need = need }
+
+  pub turns_right : (pre : List Transfer) (t : Transfer) → Along pre → IsRight pre t → IsAnswered pre t
+      → map turn_made (after pre).made ≡ map account_reported pre → map turn_made (after (pre ++ t ∷ [])).made ≡ map account_reported (pre ++ t ∷ [])
+  unfolding account_of
+  turns_right pre t h right ok earlier =
+      ap (λ (r : Replay). map turn_made r.made) (after_one pre t)
+      ∙ (turn_made_list (after pre) t
+      ∙ (two (λ us u. us ++ u ∷ []) earlier (two account_of (transfer_made_right pre t h right ok) (need_made_right pre t h right))
+      ∙ sym (map-append account_reported pre (t ∷ []))))
+
+  -- the account of each core is by its course over these transfers
+  pub cores_accounted : (ts : List Transfer) → Along ts → map core_account (replay_finished (after ts)).cores ≡ map (λ g. core_by_course g (finished g (course g ts))) grounds
+  cores_accounted ts h =
+      map-map core_account core_finished (after ts).cores
+      ∙ (ap (map (λ c. core_account (core_finished c))) (along_cores ts h) ∙ map-map (λ c. core_account (core_finished c)) (core_after_all setup ts) grounds)
