@@ -51,6 +51,7 @@ mod StoreToAWordNotValid
 mod FillOfAPresentLine
 mod FlipInAnotherWindow
 mod BothOperandsAreRead
+mod AtomicWritesItsRegister
 mod FetchAfterStruckTag
 mod FetchAfterStruckByte
 mod FetchBadWord

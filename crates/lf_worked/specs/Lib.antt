@@ -44,6 +44,7 @@ pub mod StoreToAWordNotValid
 pub mod FillOfAPresentLine
 pub mod FlipInAnotherWindow
 pub mod BothOperandsAreRead
+pub mod AtomicWritesItsRegister
 pub mod FetchAfterStruckTag
 pub mod FetchAfterStruckByte
 pub mod FetchBadWord
