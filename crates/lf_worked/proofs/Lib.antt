@@ -94,6 +94,7 @@ mod ByteOfZero
 mod OverwrittenBeforeItIsRead
 mod ThreeSteps
 mod FixedWordTakesTwoFlips
+mod StoreAfterALostOne
 mod WrongSteps
 mod WrongCores
 mod WrongPlaces

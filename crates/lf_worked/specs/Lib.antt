@@ -87,3 +87,4 @@ pub mod ByteOfZero
 pub mod OverwrittenBeforeItIsRead
 pub mod ThreeSteps
 pub mod FixedWordTakesTwoFlips
+pub mod StoreAfterALostOne
