@@ -5,6 +5,8 @@ use Rattle.lf_model.specs.Report.{report}
 use Rattle.lf_worked.specs.Machine.{machine}
 use Rattle.lf_worked.specs.ByteAtomicNotes.{byte_atomic_notes_setup, byte_atomic_notes_events, byte_atomic_notes_trace, byte_atomic_notes_text}
 use Rattle.lf_worked.proofs.PromiseTest.{played}
+use Rattle.lf_worked.proofs.RecordTest.{kept_of, log_of, on_bus, named_by_all}
+use Rattle.lf_worked.proofs.RecordsTest.{RecordAt, BusRecordOf, status_of, bus_fates, record_ok, bus_record_ok}
 
 byte_atomic_notes_report : report byte_atomic_notes_trace ≡ byte_atomic_notes_text
 unfolding machine byte_atomic_notes_trace byte_atomic_notes_text
@@ -13,3 +15,12 @@ byte_atomic_notes_report = refl
 byte_atomic_notes_played : IsPlayedBy byte_atomic_notes_setup byte_atomic_notes_events byte_atomic_notes_trace
 unfolding machine byte_atomic_notes_setup byte_atomic_notes_events byte_atomic_notes_trace
 byte_atomic_notes_played = played byte_atomic_notes_setup byte_atomic_notes_events byte_atomic_notes_trace refl
+
+byte_atomic_notes_record_0 : RecordAt byte_atomic_notes_setup byte_atomic_notes_trace 0
+unfolding machine byte_atomic_notes_setup byte_atomic_notes_trace
+byte_atomic_notes_record_0 = record_ok byte_atomic_notes_setup 0 (kept_of byte_atomic_notes_setup byte_atomic_notes_trace 0) (log_of byte_atomic_notes_setup byte_atomic_notes_trace) (on_bus byte_atomic_notes_setup byte_atomic_notes_trace) refl refl refl refl refl
+
+byte_atomic_notes_bus_record : BusRecordOf byte_atomic_notes_setup byte_atomic_notes_trace
+unfolding machine byte_atomic_notes_setup byte_atomic_notes_trace
+byte_atomic_notes_bus_record = bus_record_ok byte_atomic_notes_setup (log_of byte_atomic_notes_setup byte_atomic_notes_trace) (on_bus byte_atomic_notes_setup byte_atomic_notes_trace) (status_of byte_atomic_notes_trace) (bus_fates byte_atomic_notes_setup byte_atomic_notes_trace) (named_by_all byte_atomic_notes_setup byte_atomic_notes_trace)
+    refl refl refl refl refl refl

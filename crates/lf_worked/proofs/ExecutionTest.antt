@@ -10,8 +10,10 @@ use Rattle.lf_model.specs.Places.{FailsNowhereIn}
 use Rattle.lf_model.specs.Order.{LoadOpAt, StoreStoreAt}
 use Rattle.lf_model.specs.Value.{ValueAt, Reads, stored, candidates}
 use Rattle.lf_model.specs.Once.{is_number, HasMaster, OnceAtCore, OnceAtTransfer, OnceAtFinal, address_of}
-use Rattle.lf_model.specs.Run.{Run}
-use Rattle.lf_model.specs.Execution.{program_order, run_of_core, IsThread, ThreadAt, IsExecution}
+use Rattle.lf_model.specs.Run.{Run, run}
+use Rattle.lf_model.specs.Execution.{answers_of}
+use Rattle.lf_model.specs.Promise.Headline.{IsTsoExecution}
+use Rattle.lf_model.specs.Records.CoreRules.{EndedCore, HasThread, ThreadAt, core_in_trace}
 use Rattle.lf_model.specs.declared.bus.Entry.{Entry}
 use Rattle.lf_model.specs.declared.bus.Transfer.{Transfer}
 use Rattle.lf_model.specs.declared.bus.TurnKind.{TurnKind}
@@ -72,10 +74,10 @@ store_store-sound earlier r later passes storing =
 
 -- ---- Value: byte by byte, over the bytes that a reader reads
 
-abbrev reads_byte : (ℕ → ℕ) → Entry → List Entry → ℕ → Bool
+abbrev pub reads_byte : (ℕ → ℕ) → Entry → List Entry → ℕ → Bool
 reads_byte initial r es j = byte_got (r.addr + j) r == stored (r.addr + j) es (initial (r.addr + j))
 
-reads_byte-sound : (initial : ℕ → ℕ) (r : Entry) (es : List Entry) → passes_below (reads_byte initial r es) r.len ≡ true → Reads initial r es
+pub reads_byte-sound : (initial : ℕ → ℕ) (r : Entry) (es : List Entry) → passes_below (reads_byte initial r es) r.len ≡ true → Reads initial r es
 reads_byte-sound initial r es passes a touched =
     let parts = and_parts (nat_le r.addr a) (nat_lt a (r.addr + r.len)) touched in
     let least = leb-true r.addr a parts.0 in
@@ -120,10 +122,10 @@ has_master-sound cores master Snoop passes = ltb-true master cores passes
 has_master-sound cores master Look passes = eqb-true master 8 passes
 has_master-sound cores master Fix passes = eqb-true master 8 passes
 
-abbrev once_transfer : ℕ → List Transfer → ℕ → Bool
+abbrev pub once_transfer : ℕ → List Transfer → ℕ → Bool
 once_transfer cores transfers i = option_map_or (λ t. has_master cores t.master t.kind) (slice_get transfers i) true
 
-once_transfer-sound : (cores : ℕ) (transfers : List Transfer) (i : ℕ) → once_transfer cores transfers i ≡ true → OnceAtTransfer cores transfers i
+pub once_transfer-sound : (cores : ℕ) (transfers : List Transfer) (i : ℕ) → once_transfer cores transfers i ≡ true → OnceAtTransfer cores transfers i
 once_transfer-sound cores transfers i passes =
     holds_if_some (λ t. has_master cores t.master t.kind) (λ t. HasMaster cores t.master t.kind)
     (λ t. has_master-sound cores t.master t.kind) (slice_get transfers i) passes
@@ -147,24 +149,24 @@ once_final-sound setup trace passes =
 abbrev has_made : List Entry → Run → Bool
 has_made es q = same_entries q.ops es
 
-abbrev is_thread : Setup → Trace → ℕ → CoreResult → Bool
-is_thread setup trace c r = nat_le r.n setup.config.steps
-    && option_map_or (has_made (map made (program_order c trace.order))) (run_of_core setup trace c r.n) false
+abbrev pub has_thread : Setup → EndedCore → Bool
+has_thread setup c = nat_le c.result.n setup.config.steps
+    && option_map_or (has_made (map made c.ops)) (run setup c.core (answers_of c.ops) c.result.n) false
 
 comes_so_far : (es : List Entry) (q : Option Run) → option_map_or (has_made es) q false ≡ true → IsSomeAnd q (λ q. q.ops ≡ es)
 comes_so_far es None passes = absurd (false≢true passes)
 comes_so_far es (Some q) passes = is_same_entries q.ops es passes
 
-is_thread-sound : (setup : Setup) (trace : Trace) (c : ℕ) (r : CoreResult) → is_thread setup trace c r ≡ true → IsThread setup trace c r
-is_thread-sound setup trace c r passes = let parts = and_parts (nat_le r.n setup.config.steps) _ passes in
-    record { within = leb-true _ _ parts.0; same = comes_so_far _ (run_of_core setup trace c r.n) parts.1 }
+pub has_thread-sound : (setup : Setup) (c : EndedCore) → has_thread setup c ≡ true → HasThread setup c
+has_thread-sound setup c passes = let parts = and_parts (nat_le c.result.n setup.config.steps) _ passes in
+    record { within = leb-true _ _ parts.0; same = comes_so_far _ (run setup c.core (answers_of c.ops) c.result.n) parts.1 }
 
 abbrev thread : Setup → Trace → ℕ → Bool
-thread setup trace c = option_map_or (is_thread setup trace c) (slice_get trace.cores c) true
+thread setup trace c = option_map_or (λ r. has_thread setup (core_in_trace trace c r)) (slice_get trace.cores c) true
 
 thread-sound : (setup : Setup) (trace : Trace) (c : ℕ) → thread setup trace c ≡ true → ThreadAt setup trace c
-thread-sound setup trace c passes =
-    holds_if_some (is_thread setup trace c) (IsThread setup trace c) (is_thread-sound setup trace c) (slice_get trace.cores c) passes
+thread-sound setup trace c passes = holds_if_some (λ r. has_thread setup (core_in_trace trace c r))
+    (λ r. HasThread setup (core_in_trace trace c r)) (λ r. has_thread-sound setup (core_in_trace trace c r)) (slice_get trace.cores c) passes
 
 -- ---- all rules
 
@@ -178,7 +180,7 @@ is_execution setup trace = passes_below (once_core trace.order) setup.config.cor
     && (passes_below (thread setup trace) setup.config.cores
     && passes_order (value (initial_byte setup.image)) trace.order))))))
 
-pub execution : (setup : Setup) (trace : Trace) → is_execution setup trace ≡ true → IsExecution setup trace
+pub execution : (setup : Setup) (trace : Trace) → is_execution setup trace ≡ true → IsTsoExecution setup trace
 execution setup trace passes =
     let cores = and_parts (passes_below (once_core trace.order) setup.config.cores) _ passes in
     let order = and_parts (passes_order (once_order setup.config.cores) trace.order) _ cores.1 in

@@ -5,6 +5,8 @@ use Rattle.lf_model.specs.Report.{report}
 use Rattle.lf_worked.specs.Machine.{machine}
 use Rattle.lf_worked.specs.FetchAfterStruckByte.{fetch_after_struck_byte_setup, fetch_after_struck_byte_events, fetch_after_struck_byte_trace, fetch_after_struck_byte_text}
 use Rattle.lf_worked.proofs.PromiseTest.{played}
+use Rattle.lf_worked.proofs.RecordTest.{kept_of, log_of, on_bus, named_by_all}
+use Rattle.lf_worked.proofs.RecordsTest.{RecordAt, BusRecordOf, status_of, bus_fates, record_ok, bus_record_ok}
 
 fetch_after_struck_byte_report : report fetch_after_struck_byte_trace ≡ fetch_after_struck_byte_text
 unfolding machine fetch_after_struck_byte_trace fetch_after_struck_byte_text
@@ -13,3 +15,12 @@ fetch_after_struck_byte_report = refl
 fetch_after_struck_byte_played : IsPlayedBy fetch_after_struck_byte_setup fetch_after_struck_byte_events fetch_after_struck_byte_trace
 unfolding machine fetch_after_struck_byte_setup fetch_after_struck_byte_events fetch_after_struck_byte_trace
 fetch_after_struck_byte_played = played fetch_after_struck_byte_setup fetch_after_struck_byte_events fetch_after_struck_byte_trace refl
+
+fetch_after_struck_byte_record_0 : RecordAt fetch_after_struck_byte_setup fetch_after_struck_byte_trace 0
+unfolding machine fetch_after_struck_byte_setup fetch_after_struck_byte_trace
+fetch_after_struck_byte_record_0 = record_ok fetch_after_struck_byte_setup 0 (kept_of fetch_after_struck_byte_setup fetch_after_struck_byte_trace 0) (log_of fetch_after_struck_byte_setup fetch_after_struck_byte_trace) (on_bus fetch_after_struck_byte_setup fetch_after_struck_byte_trace) refl refl refl refl refl
+
+fetch_after_struck_byte_bus_record : BusRecordOf fetch_after_struck_byte_setup fetch_after_struck_byte_trace
+unfolding machine fetch_after_struck_byte_setup fetch_after_struck_byte_trace
+fetch_after_struck_byte_bus_record = bus_record_ok fetch_after_struck_byte_setup (log_of fetch_after_struck_byte_setup fetch_after_struck_byte_trace) (on_bus fetch_after_struck_byte_setup fetch_after_struck_byte_trace) (status_of fetch_after_struck_byte_trace) (bus_fates fetch_after_struck_byte_setup fetch_after_struck_byte_trace) (named_by_all fetch_after_struck_byte_setup fetch_after_struck_byte_trace)
+    refl refl refl refl refl refl

@@ -5,6 +5,8 @@ use Rattle.lf_model.specs.Report.{report}
 use Rattle.lf_worked.specs.Machine.{machine}
 use Rattle.lf_worked.specs.FetchBadWord.{fetch_bad_word_setup, fetch_bad_word_events, fetch_bad_word_trace, fetch_bad_word_text}
 use Rattle.lf_worked.proofs.PromiseTest.{played}
+use Rattle.lf_worked.proofs.RecordTest.{kept_of, log_of, on_bus, named_by_all}
+use Rattle.lf_worked.proofs.RecordsTest.{RecordAt, BusRecordOf, status_of, bus_fates, record_ok, bus_record_ok}
 
 fetch_bad_word_report : report fetch_bad_word_trace ≡ fetch_bad_word_text
 unfolding machine fetch_bad_word_trace fetch_bad_word_text
@@ -13,3 +15,12 @@ fetch_bad_word_report = refl
 fetch_bad_word_played : IsPlayedBy fetch_bad_word_setup fetch_bad_word_events fetch_bad_word_trace
 unfolding machine fetch_bad_word_setup fetch_bad_word_events fetch_bad_word_trace
 fetch_bad_word_played = played fetch_bad_word_setup fetch_bad_word_events fetch_bad_word_trace refl
+
+fetch_bad_word_record_0 : RecordAt fetch_bad_word_setup fetch_bad_word_trace 0
+unfolding machine fetch_bad_word_setup fetch_bad_word_trace
+fetch_bad_word_record_0 = record_ok fetch_bad_word_setup 0 (kept_of fetch_bad_word_setup fetch_bad_word_trace 0) (log_of fetch_bad_word_setup fetch_bad_word_trace) (on_bus fetch_bad_word_setup fetch_bad_word_trace) refl refl refl refl refl
+
+fetch_bad_word_bus_record : BusRecordOf fetch_bad_word_setup fetch_bad_word_trace
+unfolding machine fetch_bad_word_setup fetch_bad_word_trace
+fetch_bad_word_bus_record = bus_record_ok fetch_bad_word_setup (log_of fetch_bad_word_setup fetch_bad_word_trace) (on_bus fetch_bad_word_setup fetch_bad_word_trace) (status_of fetch_bad_word_trace) (bus_fates fetch_bad_word_setup fetch_bad_word_trace) (named_by_all fetch_bad_word_setup fetch_bad_word_trace)
+    refl refl refl refl refl refl

@@ -5,6 +5,8 @@ use Rattle.lf_model.specs.Report.{report}
 use Rattle.lf_worked.specs.Machine.{machine}
 use Rattle.lf_worked.specs.FetchBeforeRegisters.{fetch_before_registers_setup, fetch_before_registers_events, fetch_before_registers_trace, fetch_before_registers_text}
 use Rattle.lf_worked.proofs.PromiseTest.{played}
+use Rattle.lf_worked.proofs.RecordTest.{kept_of, log_of, on_bus, named_by_all}
+use Rattle.lf_worked.proofs.RecordsTest.{RecordAt, BusRecordOf, status_of, bus_fates, record_ok, bus_record_ok}
 
 fetch_before_registers_report : report fetch_before_registers_trace ≡ fetch_before_registers_text
 unfolding machine fetch_before_registers_trace fetch_before_registers_text
@@ -13,3 +15,12 @@ fetch_before_registers_report = refl
 fetch_before_registers_played : IsPlayedBy fetch_before_registers_setup fetch_before_registers_events fetch_before_registers_trace
 unfolding machine fetch_before_registers_setup fetch_before_registers_events fetch_before_registers_trace
 fetch_before_registers_played = played fetch_before_registers_setup fetch_before_registers_events fetch_before_registers_trace refl
+
+fetch_before_registers_record_0 : RecordAt fetch_before_registers_setup fetch_before_registers_trace 0
+unfolding machine fetch_before_registers_setup fetch_before_registers_trace
+fetch_before_registers_record_0 = record_ok fetch_before_registers_setup 0 (kept_of fetch_before_registers_setup fetch_before_registers_trace 0) (log_of fetch_before_registers_setup fetch_before_registers_trace) (on_bus fetch_before_registers_setup fetch_before_registers_trace) refl refl refl refl refl
+
+fetch_before_registers_bus_record : BusRecordOf fetch_before_registers_setup fetch_before_registers_trace
+unfolding machine fetch_before_registers_setup fetch_before_registers_trace
+fetch_before_registers_bus_record = bus_record_ok fetch_before_registers_setup (log_of fetch_before_registers_setup fetch_before_registers_trace) (on_bus fetch_before_registers_setup fetch_before_registers_trace) (status_of fetch_before_registers_trace) (bus_fates fetch_before_registers_setup fetch_before_registers_trace) (named_by_all fetch_before_registers_setup fetch_before_registers_trace)
+    refl refl refl refl refl refl

@@ -5,6 +5,8 @@ use Rattle.lf_model.specs.Report.{report}
 use Rattle.lf_worked.specs.Machine.{machine}
 use Rattle.lf_worked.specs.FlipsOfCoreOne.{flips_of_core_one_setup, flips_of_core_one_events, flips_of_core_one_trace, flips_of_core_one_text}
 use Rattle.lf_worked.proofs.PromiseTest.{played}
+use Rattle.lf_worked.proofs.RecordTest.{kept_of, log_of, on_bus, named_by_all}
+use Rattle.lf_worked.proofs.RecordsTest.{RecordAt, BusRecordOf, status_of, bus_fates, record_ok, bus_record_ok}
 
 flips_of_core_one_report : report flips_of_core_one_trace ≡ flips_of_core_one_text
 unfolding machine flips_of_core_one_trace flips_of_core_one_text
@@ -13,3 +15,16 @@ flips_of_core_one_report = refl
 flips_of_core_one_played : IsPlayedBy flips_of_core_one_setup flips_of_core_one_events flips_of_core_one_trace
 unfolding machine flips_of_core_one_setup flips_of_core_one_events flips_of_core_one_trace
 flips_of_core_one_played = played flips_of_core_one_setup flips_of_core_one_events flips_of_core_one_trace refl
+
+flips_of_core_one_record_0 : RecordAt flips_of_core_one_setup flips_of_core_one_trace 0
+unfolding machine flips_of_core_one_setup flips_of_core_one_trace
+flips_of_core_one_record_0 = record_ok flips_of_core_one_setup 0 (kept_of flips_of_core_one_setup flips_of_core_one_trace 0) (log_of flips_of_core_one_setup flips_of_core_one_trace) (on_bus flips_of_core_one_setup flips_of_core_one_trace) refl refl refl refl refl
+
+flips_of_core_one_record_1 : RecordAt flips_of_core_one_setup flips_of_core_one_trace 1
+unfolding machine flips_of_core_one_setup flips_of_core_one_trace
+flips_of_core_one_record_1 = record_ok flips_of_core_one_setup 1 (kept_of flips_of_core_one_setup flips_of_core_one_trace 1) (log_of flips_of_core_one_setup flips_of_core_one_trace) (on_bus flips_of_core_one_setup flips_of_core_one_trace) refl refl refl refl refl
+
+flips_of_core_one_bus_record : BusRecordOf flips_of_core_one_setup flips_of_core_one_trace
+unfolding machine flips_of_core_one_setup flips_of_core_one_trace
+flips_of_core_one_bus_record = bus_record_ok flips_of_core_one_setup (log_of flips_of_core_one_setup flips_of_core_one_trace) (on_bus flips_of_core_one_setup flips_of_core_one_trace) (status_of flips_of_core_one_trace) (bus_fates flips_of_core_one_setup flips_of_core_one_trace) (named_by_all flips_of_core_one_setup flips_of_core_one_trace)
+    refl refl refl refl refl refl

@@ -5,6 +5,8 @@ use Rattle.lf_model.specs.Report.{report}
 use Rattle.lf_worked.specs.Machine.{machine}
 use Rattle.lf_worked.specs.HalfStoreByCoreOne.{half_store_by_core_one_setup, half_store_by_core_one_events, half_store_by_core_one_trace, half_store_by_core_one_text}
 use Rattle.lf_worked.proofs.PromiseTest.{played}
+use Rattle.lf_worked.proofs.RecordTest.{kept_of, log_of, on_bus, named_by_all}
+use Rattle.lf_worked.proofs.RecordsTest.{RecordAt, BusRecordOf, status_of, bus_fates, record_ok, bus_record_ok}
 
 half_store_by_core_one_report : report half_store_by_core_one_trace ≡ half_store_by_core_one_text
 unfolding machine half_store_by_core_one_trace half_store_by_core_one_text
@@ -13,3 +15,16 @@ half_store_by_core_one_report = refl
 half_store_by_core_one_played : IsPlayedBy half_store_by_core_one_setup half_store_by_core_one_events half_store_by_core_one_trace
 unfolding machine half_store_by_core_one_setup half_store_by_core_one_events half_store_by_core_one_trace
 half_store_by_core_one_played = played half_store_by_core_one_setup half_store_by_core_one_events half_store_by_core_one_trace refl
+
+half_store_by_core_one_record_0 : RecordAt half_store_by_core_one_setup half_store_by_core_one_trace 0
+unfolding machine half_store_by_core_one_setup half_store_by_core_one_trace
+half_store_by_core_one_record_0 = record_ok half_store_by_core_one_setup 0 (kept_of half_store_by_core_one_setup half_store_by_core_one_trace 0) (log_of half_store_by_core_one_setup half_store_by_core_one_trace) (on_bus half_store_by_core_one_setup half_store_by_core_one_trace) refl refl refl refl refl
+
+half_store_by_core_one_record_1 : RecordAt half_store_by_core_one_setup half_store_by_core_one_trace 1
+unfolding machine half_store_by_core_one_setup half_store_by_core_one_trace
+half_store_by_core_one_record_1 = record_ok half_store_by_core_one_setup 1 (kept_of half_store_by_core_one_setup half_store_by_core_one_trace 1) (log_of half_store_by_core_one_setup half_store_by_core_one_trace) (on_bus half_store_by_core_one_setup half_store_by_core_one_trace) refl refl refl refl refl
+
+half_store_by_core_one_bus_record : BusRecordOf half_store_by_core_one_setup half_store_by_core_one_trace
+unfolding machine half_store_by_core_one_setup half_store_by_core_one_trace
+half_store_by_core_one_bus_record = bus_record_ok half_store_by_core_one_setup (log_of half_store_by_core_one_setup half_store_by_core_one_trace) (on_bus half_store_by_core_one_setup half_store_by_core_one_trace) (status_of half_store_by_core_one_trace) (bus_fates half_store_by_core_one_setup half_store_by_core_one_trace) (named_by_all half_store_by_core_one_setup half_store_by_core_one_trace)
+    refl refl refl refl refl refl

@@ -10,7 +10,7 @@ use Rattle.lf_model.specs.Course.Progress.{Completion, ErrorTrap}
 use Rattle.lf_model.specs.Ledger.Account.{TurnAccount, Account}
 use Rattle.lf_model.specs.Ledger.CoreAccount.{CoreAccount}
 use Rattle.lf_model.specs.Ledger.OrderAccount.{OrderAccount}
-use Rattle.lf_model.specs.Promise.Turns.{Turn as BusTurn}
+use Rattle.lf_model.specs.Promise.Turns.{TurnMade}
 use Rattle.lf_model.specs.Names.{kind_place, why_place, fate_place}
 use Rattle.lf_model.specs.declared.bus.Entry.{Entry}
 use Rattle.lf_model.specs.declared.bus.Transfer.{Transfer}
@@ -186,11 +186,11 @@ put_of k ops = option_map_or (λ e. e.put) (slice_get ops k) 0
 
 -- ---- of lists of turns, error traps and answers
 
-abbrev pub master_at : ℕ → List BusTurn → ℕ
+abbrev pub master_at : ℕ → List TurnMade → ℕ
 master_at i turns = option_map_or (λ t. t.master) (slice_get turns i) 0
 
 -- 1 where the schedule asked for the drain
-abbrev pub scheduled_at : ℕ → List BusTurn → ℕ
+abbrev pub scheduled_at : ℕ → List TurnMade → ℕ
 scheduled_at i turns = option_map_or (λ t. from_bool t.scheduled) (slice_get turns i) 0
 
 abbrev pub first_syndrome : List ErrorTrap → ℕ

@@ -19,7 +19,7 @@ use Rattle.std.specs.List.{list_all}
 use Rattle.lf_worked.proofs.Numerals.{passes_below, passes_at}
 use Rattle.lf_worked.proofs.Tests.{holds_if_some, same_list, is_same_list}
 
-is_same_transfer : (t u : Transfer) → same_transfer t u ≡ true → t ≡ u
+pub is_same_transfer : (t u : Transfer) → same_transfer t u ≡ true → t ≡ u
 is_same_transfer t u passes =
     let syn = and_parts (t.syn == u.syn) _ passes in
     let turn = and_parts (t.turn == u.turn) _ syn.1 in
@@ -45,7 +45,7 @@ is_same_transfer t u passes =
 
 -- ---- the steps of a core
 
-abbrev has_steps : Setup → CoreResult → List Transfer → Bool
+abbrev pub has_steps : Setup → CoreResult → List Transfer → Bool
 has_steps setup r own = same_list same_transfer own (in_steps r.steps own ++ past_steps r.steps own)
     && (ascends_from 0 (in_steps r.steps own)
     && (list_all (is_last_drain setup.config.steps) (past_steps r.steps own)
@@ -54,7 +54,7 @@ has_steps setup r own = same_list same_transfer own (in_steps r.steps own ++ pas
     && ((retiring_steps r.end r.steps (in_steps r.steps own) == r.n)
     && (not (is_halt r.end) || last_retires r.end r.steps (in_steps r.steps own)))))))
 
-has_steps-sound : (setup : Setup) (r : CoreResult) (own : List Transfer) → has_steps setup r own ≡ true → HasSteps setup r own
+pub has_steps-sound : (setup : Setup) (r : CoreResult) (own : List Transfer) → has_steps setup r own ≡ true → HasSteps setup r own
 has_steps-sound setup r own passes =
     let order = and_parts (same_list same_transfer own (in_steps r.steps own ++ past_steps r.steps own)) _ passes in
     let ascending = and_parts (ascends_from 0 (in_steps r.steps own)) _ order.1 in

@@ -5,6 +5,8 @@ mod ExecutionTest
 mod ResultsTest
 mod LedgerTest
 mod PromiseTest
+mod RecordTest
+mod RecordsTest
 mod Items
 mod ByteOut
 mod CorrectedLoad
@@ -43,6 +45,13 @@ mod SnoopChecksTags
 mod StoreChecksTags
 mod FlipsOfCoreOne
 mod CellOfTheNumberOfATurn
+mod DiscardedByteStaysStruck
+mod StoreWritesStruckBytes
+mod StoreToAWordNotValid
+mod FillOfAPresentLine
+mod FlipInAnotherWindow
+mod BothOperandsAreRead
+mod AtomicWritesItsRegister
 mod FetchAfterStruckTag
 mod FetchAfterStruckByte
 mod FetchBadWord
@@ -85,6 +94,7 @@ mod ByteOfZero
 mod OverwrittenBeforeItIsRead
 mod ThreeSteps
 mod FixedWordTakesTwoFlips
+mod StoreAfterALostOne
 mod WrongSteps
 mod WrongCores
 mod WrongPlaces

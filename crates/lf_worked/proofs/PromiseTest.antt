@@ -15,7 +15,7 @@ use Rattle.lf_model.specs.Promise.Headline.{Headline, HasStopCause, HasBlanks, S
 use Rattle.lf_model.specs.Promise.Played.{IsPlayedBy}
 use Rattle.lf_model.specs.Promise.Regular.{IsRegular, is_regular_core, is_regular_op, is_regular_word, steps_fit, turn_of}
 use Rattle.lf_model.specs.Promise.RegularTransfer.{fits_word, is_regular_transfer}
-use Rattle.lf_model.specs.Promise.Turns.{Turn, turn_reported}
+use Rattle.lf_model.specs.Promise.Turns.{TurnMade, turn_reported}
 use Rattle.lf_model.specs.declared.setup.Event.{Event}
 use Rattle.lf_model.specs.declared.setup.Setup.{Setup}
 use Rattle.lf_model.specs.declared.trace.CoreResult.{CoreResult}
@@ -24,16 +24,16 @@ use Rattle.lf_model.specs.declared.trace.Word2.{Word2}
 use Rattle.lf_worked.proofs.Numerals.{passes_below, passes_at}
 use Rattle.lf_worked.proofs.Tests.{holds_if_some, same_list, is_same_list, same_numbers, is_same_numbers}
 use Rattle.lf_worked.proofs.ExecutionTest.{is_execution, execution}
-use Rattle.lf_worked.proofs.ResultsTest.{has_results, results}
+use Rattle.lf_worked.proofs.ResultsTest.{result_at, result_at-sound, word_at_end, word_at_end-sound}
 use Rattle.lf_worked.proofs.LedgerTest.{keeps_ledger, ledger}
 
-is_same_bool : (a b : Bool) → same_bool a b ≡ true → a ≡ b
+pub is_same_bool : (a b : Bool) → same_bool a b ≡ true → a ≡ b
 is_same_bool true true passes = refl
 is_same_bool false false passes = refl
 is_same_bool true false passes = absurd (false≢true passes)
 is_same_bool false true passes = absurd (false≢true passes)
 
-is_same_error : (a b : ErrorTrap) → same_error a b ≡ true → a ≡ b
+pub is_same_error : (a b : ErrorTrap) → same_error a b ≡ true → a ≡ b
 is_same_error a b passes =
     let trap_type = and_parts (a.trap_type == b.trap_type) _ passes in
     let place = and_parts (a.place == b.place) _ trap_type.1 in
@@ -90,20 +90,23 @@ watch_at-sound setup trace i passes = holds_if_some (watched setup trace) (λ wo
 
 abbrev pub is_headline : Setup → Trace → Bool
 is_headline setup trace = is_execution setup trace
-    && (has_results setup trace
+    && (passes_below (result_at setup trace) setup.config.cores
+    && (passes_below (word_at_end setup trace) (length trace.watch)
     && (passes_below (stop_cause_at setup trace) setup.config.cores
     && (passes_below (blank_at setup trace) setup.config.cores
-    && passes_below (watch_at setup trace) (length trace.watch))))
+    && passes_below (watch_at setup trace) (length trace.watch)))))
 
 pub headline : (setup : Setup) (trace : Trace) → is_headline setup trace ≡ true → Headline setup trace
 headline setup trace passes =
     let is = and_parts (is_execution setup trace) _ passes in
-    let has = and_parts (has_results setup trace) _ is.1 in
-    let stops = and_parts (passes_below (stop_cause_at setup trace) setup.config.cores) _ has.1 in
+    let has = and_parts (passes_below (result_at setup trace) setup.config.cores) _ is.1 in
+    let last = and_parts (passes_below (word_at_end setup trace) (length trace.watch)) _ has.1 in
+    let stops = and_parts (passes_below (stop_cause_at setup trace) setup.config.cores) _ last.1 in
     let blanks = and_parts (passes_below (blank_at setup trace) setup.config.cores) _ stops.1 in
     record {
       execution = execution setup trace is.0;
-      results = results setup trace has.0;
+      results = λ c within. result_at-sound setup trace c (passes_at (result_at setup trace) setup.config.cores has.0 c within);
+      words = λ i within. word_at_end-sound setup trace i (passes_at (word_at_end setup trace) (length trace.watch) last.0 i within);
       stops = λ c within. stop_cause_at-sound setup trace c (passes_at (stop_cause_at setup trace) setup.config.cores stops.0 c within);
       blanks = λ c within. blank_at-sound setup trace c (passes_at (blank_at setup trace) setup.config.cores blanks.0 c within);
       watched = λ i within. watch_at-sound setup trace i (passes_at (watch_at setup trace) (length trace.watch) blanks.1 i within);
@@ -111,10 +114,10 @@ headline setup trace passes =
 
 -- ---- the schedule
 
-abbrev same_turn : Turn → Turn → Bool
+abbrev same_turn : TurnMade → TurnMade → Bool
 same_turn a b = (a.master == b.master) && same_bool a.scheduled b.scheduled
 
-is_same_turn : (a b : Turn) → same_turn a b ≡ true → a ≡ b
+is_same_turn : (a b : TurnMade) → same_turn a b ≡ true → a ≡ b
 is_same_turn a b passes = let parts = and_parts (a.master == b.master) _ passes in
     λ i. record { master = eqb-true a.master b.master parts.0 i; scheduled = is_same_bool a.scheduled b.scheduled parts.1 i }
 

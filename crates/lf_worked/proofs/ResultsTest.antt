@@ -1,13 +1,15 @@
 -- Whether the results of a trace are those of its execution, by a test that computes.
-use Rattle.std.proofs.Common.{ℕ, ◌≡◌, ◌+◌, ◌&&◌, nat_le, nat_lt, Bool, true, false, List, length, slice_get, Option, IfSome}
-use Rattle.std.specs.Prelude.{◌==◌, count_by}
+use Rattle.std.proofs.Common.{ℕ, ◌≡◌, ◌+◌, ◌&&◌, nat_le, nat_lt, Bool, true, false, List, length, slice_get, Option, Some, None, IfSome}
+use Rattle.std.specs.Prelude.{◌==◌, count_by, IsSomeAnd}
 use Rattle.std.specs.Option.{option_map_or}
 use Rattle.std.proofs.lemmas.Bool.{eqb-true, lt-ltb, and_parts, leb-true, false≢true}
 use Rattle.lf_model.specs.Start.{number_at}
 use Rattle.lf_model.specs.State.{State, register, psr_of}
-use Rattle.lf_model.specs.Run.{Run}
-use Rattle.lf_model.specs.Execution.{run_of_core}
-use Rattle.lf_model.specs.Results.{halt_of, idle_steps, IsEnd, LosesStores, is_lost_by, is_in_steps, ShowsRegisters, Shows, ResultAt, final_byte, ShowsWord, ResultAtFinal, HasResults}
+use Rattle.lf_model.specs.Run.{Run, run}
+use Rattle.lf_model.specs.Execution.{answers_of}
+use Rattle.lf_model.specs.Operation.{is_lost}
+use Rattle.lf_model.specs.Records.CoreRules.{EndedCore, ShowsState, ShowsResult, ResultAt, core_in_trace}
+use Rattle.lf_model.specs.Results.{halt_of, idle_steps, is_in_steps, IsEnd, LosesStores, ShowsRegisters, final_byte, ShowsWord, ResultAtFinal}
 use Rattle.lf_model.specs.declared.setup.Setup.{Setup}
 use Rattle.lf_model.specs.declared.trace.CoreEnd.{CoreEnd}
 use Rattle.lf_model.specs.declared.trace.CoreEnd.TheVariants.{Halt, Stop, Limit}
@@ -57,68 +59,72 @@ loses_stores-sound Limit passes = false≢true passes
 
 -- ---- a core's result
 
-abbrev shows : Setup → Trace → ℕ → CoreResult → State → Bool
-shows setup trace c r s = same_numbers r.out s.out
-    && ((r.psr == psr_of s.ctl)
-    && ((r.wim == s.wim)
-    && ((r.tbr == s.ctl.tbr)
-    && ((r.y == s.y)
-    && ((r.pc == s.ctl.pc)
-    && ((r.npc == s.ctl.npc)
-    && (passes_below (shows_register s r.regs) 32
-    && (same_option s.halt (halt_of r.end)
-    && (is_end setup r.steps r.end
-    && (nat_le r.steps setup.config.steps
-    && (nat_le r.steps (r.n + count_by (is_in_steps c r.steps) trace.transfers + idle_steps r.end)
-    && implies (nat_lt 0 (count_by (is_lost_by c) trace.order)) (loses_stores r.end))))))))))))
+abbrev shows_state : Setup → EndedCore → State → Bool
+shows_state setup c s = same_numbers c.result.out s.out
+    && ((c.result.psr == psr_of s.ctl)
+    && ((c.result.wim == s.wim)
+    && ((c.result.tbr == s.ctl.tbr)
+    && ((c.result.y == s.y)
+    && ((c.result.pc == s.ctl.pc)
+    && ((c.result.npc == s.ctl.npc)
+    && (passes_below (shows_register s c.result.regs) 32
+    && (same_option s.halt (halt_of c.result.end)
+    && (is_end setup c.result.steps c.result.end
+    && (nat_le c.result.steps setup.config.steps
+    && (nat_le c.result.steps (c.result.n + count_by (is_in_steps c.core c.result.steps) c.transfers + idle_steps c.result.end)
+    && implies (nat_lt 0 (count_by is_lost c.ops)) (loses_stores c.result.end))))))))))))
 
-shows-sound : (setup : Setup) (trace : Trace) (c : ℕ) (r : CoreResult) (s : State) → shows setup trace c r s ≡ true → Shows setup trace c r s
-shows-sound setup trace c r s passes =
-    let out = and_parts (same_numbers r.out s.out) _ passes in
-    let psr = and_parts (r.psr == psr_of s.ctl) _ out.1 in
-    let wim = and_parts (r.wim == s.wim) _ psr.1 in
-    let tbr = and_parts (r.tbr == s.ctl.tbr) _ wim.1 in
-    let y = and_parts (r.y == s.y) _ tbr.1 in
-    let pc = and_parts (r.pc == s.ctl.pc) _ y.1 in
-    let npc = and_parts (r.npc == s.ctl.npc) _ pc.1 in
-    let registers = and_parts (passes_below (shows_register s r.regs) 32) _ npc.1 in
-    let halt = and_parts (same_option s.halt (halt_of r.end)) _ registers.1 in
-    let ends = and_parts (is_end setup r.steps r.end) _ halt.1 in
-    let within = and_parts (nat_le r.steps setup.config.steps) _ ends.1 in
-    let bound = and_parts (nat_le r.steps (r.n + count_by (is_in_steps c r.steps) trace.transfers + idle_steps r.end)) _ within.1 in
+shows_state-sound : (setup : Setup) (c : EndedCore) (s : State) → shows_state setup c s ≡ true → ShowsState setup c s
+shows_state-sound setup c s passes =
+    let out = and_parts (same_numbers c.result.out s.out) _ passes in
+    let psr = and_parts (c.result.psr == psr_of s.ctl) _ out.1 in
+    let wim = and_parts (c.result.wim == s.wim) _ psr.1 in
+    let tbr = and_parts (c.result.tbr == s.ctl.tbr) _ wim.1 in
+    let y = and_parts (c.result.y == s.y) _ tbr.1 in
+    let pc = and_parts (c.result.pc == s.ctl.pc) _ y.1 in
+    let npc = and_parts (c.result.npc == s.ctl.npc) _ pc.1 in
+    let registers = and_parts (passes_below (shows_register s c.result.regs) 32) _ npc.1 in
+    let halt = and_parts (same_option s.halt (halt_of c.result.end)) _ registers.1 in
+    let ends = and_parts (is_end setup c.result.steps c.result.end) _ halt.1 in
+    let within = and_parts (nat_le c.result.steps setup.config.steps) _ ends.1 in
+    let bound = and_parts (nat_le c.result.steps (c.result.n + count_by (is_in_steps c.core c.result.steps) c.transfers + idle_steps c.result.end)) _ within.1 in
     record {
-      out = is_same_numbers r.out s.out out.0;
+      out = is_same_numbers c.result.out s.out out.0;
       psr = eqb-true _ _ psr.0;
       wim = eqb-true _ _ wim.0;
       tbr = eqb-true _ _ tbr.0;
       y = eqb-true _ _ y.0;
       pc = eqb-true _ _ pc.0;
       npc = eqb-true _ _ npc.0;
-      registers = shows_registers s r.regs registers.0;
-      halt = is_same_option s.halt (halt_of r.end) halt.0;
-      ends = is_end-sound setup r.steps r.end ends.0;
+      registers = shows_registers s c.result.regs registers.0;
+      halt = is_same_option s.halt (halt_of c.result.end) halt.0;
+      ends = is_end-sound setup c.result.steps c.result.end ends.0;
       within = leb-true _ _ within.0;
       bound = leb-true _ _ bound.0;
-      lost = λ some. loses_stores-sound r.end (implied (nat_lt 0 (count_by (is_lost_by c) trace.order)) (loses_stores r.end) bound.1 (lt-ltb _ _ some));
+      lost = λ some. loses_stores-sound c.result.end
+          (implied (nat_lt 0 (count_by is_lost c.ops)) (loses_stores c.result.end) bound.1 (lt-ltb _ _ some));
     }
 
-abbrev shows_run : Setup → Trace → ℕ → CoreResult → Run → Bool
-shows_run setup trace c r q = shows setup trace c r q.state
+abbrev shows_run : Setup → EndedCore → Run → Bool
+shows_run setup c q = shows_state setup c q.state
 
-abbrev has_result : Setup → Trace → ℕ → CoreResult → Bool
-has_result setup trace c r = option_map_or (shows_run setup trace c r) (run_of_core setup trace c r.n) true
+abbrev pub shows_result : Setup → EndedCore → Bool
+shows_result setup c = option_map_or (shows_run setup c) (run setup c.core (answers_of c.ops) c.result.n) false
 
-has_result-sound : (setup : Setup) (trace : Trace) (c : ℕ) (r : CoreResult) → has_result setup trace c r ≡ true
-    → IfSome (run_of_core setup trace c r.n) (λ q. Shows setup trace c r q.state)
-has_result-sound setup trace c r passes = holds_if_some (shows_run setup trace c r) (λ q. Shows setup trace c r q.state)
-    (λ q. shows-sound setup trace c r q.state) (run_of_core setup trace c r.n) passes
+shows_if_run : (setup : Setup) (c : EndedCore) (q : Option Run) → option_map_or (shows_run setup c) q false ≡ true
+    → IsSomeAnd q (λ q. ShowsState setup c q.state)
+shows_if_run setup c None passes = absurd (false≢true passes)
+shows_if_run setup c (Some q) passes = shows_state-sound setup c q.state passes
 
-abbrev result_at : Setup → Trace → ℕ → Bool
-result_at setup trace c = option_map_or (has_result setup trace c) (slice_get trace.cores c) true
+pub shows_result-sound : (setup : Setup) (c : EndedCore) → shows_result setup c ≡ true → ShowsResult setup c
+shows_result-sound setup c passes = shows_if_run setup c (run setup c.core (answers_of c.ops) c.result.n) passes
 
-result_at-sound : (setup : Setup) (trace : Trace) (c : ℕ) → result_at setup trace c ≡ true → ResultAt setup trace c
-result_at-sound setup trace c passes = holds_if_some (has_result setup trace c) (λ r. IfSome (run_of_core setup trace c r.n) (λ q. Shows setup trace c r q.state))
-    (has_result-sound setup trace c) (slice_get trace.cores c) passes
+abbrev pub result_at : Setup → Trace → ℕ → Bool
+result_at setup trace c = option_map_or (λ r. shows_result setup (core_in_trace trace c r)) (slice_get trace.cores c) true
+
+pub result_at-sound : (setup : Setup) (trace : Trace) (c : ℕ) → result_at setup trace c ≡ true → ResultAt setup trace c
+result_at-sound setup trace c passes = holds_if_some (λ r. shows_result setup (core_in_trace trace c r))
+    (λ r. ShowsResult setup (core_in_trace trace c r)) (λ r. shows_result-sound setup (core_in_trace trace c r)) (slice_get trace.cores c) passes
 
 -- ---- watched words
 
@@ -129,22 +135,9 @@ shows_word-sound : (setup : Setup) (trace : Trace) (word : Word2) → shows_word
 shows_word-sound setup trace word passes = holds_if_some (is_value (number_at (final_byte setup trace) word.addr 4))
     (λ value. value ≡ number_at (final_byte setup trace) word.addr 4) (λ value. eqb-true value _) word.value passes
 
-abbrev word_at_end : Setup → Trace → ℕ → Bool
+abbrev pub word_at_end : Setup → Trace → ℕ → Bool
 word_at_end setup trace i = option_map_or (shows_word setup trace) (slice_get trace.watch i) true
 
-word_at_end-sound : (setup : Setup) (trace : Trace) (i : ℕ) → word_at_end setup trace i ≡ true → ResultAtFinal setup trace i
+pub word_at_end-sound : (setup : Setup) (trace : Trace) (i : ℕ) → word_at_end setup trace i ≡ true → ResultAtFinal setup trace i
 word_at_end-sound setup trace i passes =
     holds_if_some (shows_word setup trace) (ShowsWord setup trace) (shows_word-sound setup trace) (slice_get trace.watch i) passes
-
--- ---- all results
-
-abbrev pub has_results : Setup → Trace → Bool
-has_results setup trace = passes_below (result_at setup trace) setup.config.cores && passes_below (word_at_end setup trace) (length trace.watch)
-
-pub results : (setup : Setup) (trace : Trace) → has_results setup trace ≡ true → HasResults setup trace
-results setup trace passes =
-    let parts = and_parts (passes_below (result_at setup trace) setup.config.cores) _ passes in
-    record {
-      cores = λ c within. result_at-sound setup trace c (passes_at (result_at setup trace) setup.config.cores parts.0 c within);
-      final = λ i within. word_at_end-sound setup trace i (passes_at (word_at_end setup trace) (length trace.watch) parts.1 i within);
-    }

@@ -5,6 +5,8 @@ use Rattle.lf_model.specs.Report.{report}
 use Rattle.lf_worked.specs.Machine.{machine}
 use Rattle.lf_worked.specs.StopAtRegister.{stop_at_register_setup, stop_at_register_events, stop_at_register_trace, stop_at_register_text}
 use Rattle.lf_worked.proofs.PromiseTest.{played}
+use Rattle.lf_worked.proofs.RecordTest.{kept_of, log_of, on_bus, named_by_all}
+use Rattle.lf_worked.proofs.RecordsTest.{RecordAt, BusRecordOf, status_of, bus_fates, record_ok, bus_record_ok}
 
 stop_at_register_report : report stop_at_register_trace ≡ stop_at_register_text
 unfolding machine stop_at_register_trace stop_at_register_text
@@ -13,3 +15,12 @@ stop_at_register_report = refl
 stop_at_register_played : IsPlayedBy stop_at_register_setup stop_at_register_events stop_at_register_trace
 unfolding machine stop_at_register_setup stop_at_register_events stop_at_register_trace
 stop_at_register_played = played stop_at_register_setup stop_at_register_events stop_at_register_trace refl
+
+stop_at_register_record_0 : RecordAt stop_at_register_setup stop_at_register_trace 0
+unfolding machine stop_at_register_setup stop_at_register_trace
+stop_at_register_record_0 = record_ok stop_at_register_setup 0 (kept_of stop_at_register_setup stop_at_register_trace 0) (log_of stop_at_register_setup stop_at_register_trace) (on_bus stop_at_register_setup stop_at_register_trace) refl refl refl refl refl
+
+stop_at_register_bus_record : BusRecordOf stop_at_register_setup stop_at_register_trace
+unfolding machine stop_at_register_setup stop_at_register_trace
+stop_at_register_bus_record = bus_record_ok stop_at_register_setup (log_of stop_at_register_setup stop_at_register_trace) (on_bus stop_at_register_setup stop_at_register_trace) (status_of stop_at_register_trace) (bus_fates stop_at_register_setup stop_at_register_trace) (named_by_all stop_at_register_setup stop_at_register_trace)
+    refl refl refl refl refl refl

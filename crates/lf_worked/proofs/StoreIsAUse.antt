@@ -5,6 +5,8 @@ use Rattle.lf_model.specs.Report.{report}
 use Rattle.lf_worked.specs.Machine.{machine}
 use Rattle.lf_worked.specs.StoreIsAUse.{store_is_a_use_setup, store_is_a_use_events, store_is_a_use_trace, store_is_a_use_text}
 use Rattle.lf_worked.proofs.PromiseTest.{played}
+use Rattle.lf_worked.proofs.RecordTest.{kept_of, log_of, on_bus, named_by_all}
+use Rattle.lf_worked.proofs.RecordsTest.{RecordAt, BusRecordOf, status_of, bus_fates, record_ok, bus_record_ok}
 
 store_is_a_use_report : report store_is_a_use_trace ≡ store_is_a_use_text
 unfolding machine store_is_a_use_trace store_is_a_use_text
@@ -13,3 +15,12 @@ store_is_a_use_report = refl
 store_is_a_use_played : IsPlayedBy store_is_a_use_setup store_is_a_use_events store_is_a_use_trace
 unfolding machine store_is_a_use_setup store_is_a_use_events store_is_a_use_trace
 store_is_a_use_played = played store_is_a_use_setup store_is_a_use_events store_is_a_use_trace refl
+
+store_is_a_use_record_0 : RecordAt store_is_a_use_setup store_is_a_use_trace 0
+unfolding machine store_is_a_use_setup store_is_a_use_trace
+store_is_a_use_record_0 = record_ok store_is_a_use_setup 0 (kept_of store_is_a_use_setup store_is_a_use_trace 0) (log_of store_is_a_use_setup store_is_a_use_trace) (on_bus store_is_a_use_setup store_is_a_use_trace) refl refl refl refl refl
+
+store_is_a_use_bus_record : BusRecordOf store_is_a_use_setup store_is_a_use_trace
+unfolding machine store_is_a_use_setup store_is_a_use_trace
+store_is_a_use_bus_record = bus_record_ok store_is_a_use_setup (log_of store_is_a_use_setup store_is_a_use_trace) (on_bus store_is_a_use_setup store_is_a_use_trace) (status_of store_is_a_use_trace) (bus_fates store_is_a_use_setup store_is_a_use_trace) (named_by_all store_is_a_use_setup store_is_a_use_trace)
+    refl refl refl refl refl refl

@@ -5,6 +5,8 @@ use Rattle.lf_model.specs.Report.{report}
 use Rattle.lf_worked.specs.Machine.{machine}
 use Rattle.lf_worked.specs.ThreeLinesInTwoWays.{three_lines_in_two_ways_setup, three_lines_in_two_ways_events, three_lines_in_two_ways_trace, three_lines_in_two_ways_text}
 use Rattle.lf_worked.proofs.PromiseTest.{played}
+use Rattle.lf_worked.proofs.RecordTest.{kept_of, log_of, on_bus, named_by_all}
+use Rattle.lf_worked.proofs.RecordsTest.{RecordAt, BusRecordOf, status_of, bus_fates, record_ok, bus_record_ok}
 
 three_lines_in_two_ways_report : report three_lines_in_two_ways_trace ≡ three_lines_in_two_ways_text
 unfolding machine three_lines_in_two_ways_trace three_lines_in_two_ways_text
@@ -13,3 +15,12 @@ three_lines_in_two_ways_report = refl
 three_lines_in_two_ways_played : IsPlayedBy three_lines_in_two_ways_setup three_lines_in_two_ways_events three_lines_in_two_ways_trace
 unfolding machine three_lines_in_two_ways_setup three_lines_in_two_ways_events three_lines_in_two_ways_trace
 three_lines_in_two_ways_played = played three_lines_in_two_ways_setup three_lines_in_two_ways_events three_lines_in_two_ways_trace refl
+
+three_lines_in_two_ways_record_0 : RecordAt three_lines_in_two_ways_setup three_lines_in_two_ways_trace 0
+unfolding machine three_lines_in_two_ways_setup three_lines_in_two_ways_trace
+three_lines_in_two_ways_record_0 = record_ok three_lines_in_two_ways_setup 0 (kept_of three_lines_in_two_ways_setup three_lines_in_two_ways_trace 0) (log_of three_lines_in_two_ways_setup three_lines_in_two_ways_trace) (on_bus three_lines_in_two_ways_setup three_lines_in_two_ways_trace) refl refl refl refl refl
+
+three_lines_in_two_ways_bus_record : BusRecordOf three_lines_in_two_ways_setup three_lines_in_two_ways_trace
+unfolding machine three_lines_in_two_ways_setup three_lines_in_two_ways_trace
+three_lines_in_two_ways_bus_record = bus_record_ok three_lines_in_two_ways_setup (log_of three_lines_in_two_ways_setup three_lines_in_two_ways_trace) (on_bus three_lines_in_two_ways_setup three_lines_in_two_ways_trace) (status_of three_lines_in_two_ways_trace) (bus_fates three_lines_in_two_ways_setup three_lines_in_two_ways_trace) (named_by_all three_lines_in_two_ways_setup three_lines_in_two_ways_trace)
+    refl refl refl refl refl refl

@@ -5,6 +5,8 @@ use Rattle.lf_model.specs.Report.{report}
 use Rattle.lf_worked.specs.Machine.{machine}
 use Rattle.lf_worked.specs.WindowOverflowHandled.{window_overflow_handled_setup, window_overflow_handled_events, window_overflow_handled_trace, window_overflow_handled_text}
 use Rattle.lf_worked.proofs.PromiseTest.{played}
+use Rattle.lf_worked.proofs.RecordTest.{kept_of, log_of, on_bus, named_by_all}
+use Rattle.lf_worked.proofs.RecordsTest.{RecordAt, BusRecordOf, status_of, bus_fates, record_ok, bus_record_ok}
 
 window_overflow_handled_report : report window_overflow_handled_trace ≡ window_overflow_handled_text
 unfolding machine window_overflow_handled_trace window_overflow_handled_text
@@ -13,3 +15,12 @@ window_overflow_handled_report = refl
 window_overflow_handled_played : IsPlayedBy window_overflow_handled_setup window_overflow_handled_events window_overflow_handled_trace
 unfolding machine window_overflow_handled_setup window_overflow_handled_events window_overflow_handled_trace
 window_overflow_handled_played = played window_overflow_handled_setup window_overflow_handled_events window_overflow_handled_trace refl
+
+window_overflow_handled_record_0 : RecordAt window_overflow_handled_setup window_overflow_handled_trace 0
+unfolding machine window_overflow_handled_setup window_overflow_handled_trace
+window_overflow_handled_record_0 = record_ok window_overflow_handled_setup 0 (kept_of window_overflow_handled_setup window_overflow_handled_trace 0) (log_of window_overflow_handled_setup window_overflow_handled_trace) (on_bus window_overflow_handled_setup window_overflow_handled_trace) refl refl refl refl refl
+
+window_overflow_handled_bus_record : BusRecordOf window_overflow_handled_setup window_overflow_handled_trace
+unfolding machine window_overflow_handled_setup window_overflow_handled_trace
+window_overflow_handled_bus_record = bus_record_ok window_overflow_handled_setup (log_of window_overflow_handled_setup window_overflow_handled_trace) (on_bus window_overflow_handled_setup window_overflow_handled_trace) (status_of window_overflow_handled_trace) (bus_fates window_overflow_handled_setup window_overflow_handled_trace) (named_by_all window_overflow_handled_setup window_overflow_handled_trace)
+    refl refl refl refl refl refl

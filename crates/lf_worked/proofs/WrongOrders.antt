@@ -1,6 +1,6 @@
 -- Wrong reports that a rule of the execution refuses: Once, LoadOp, StoreStore, Thread and Value.
 use Rattle.std.specs.Prelude.{◌≡◌, refl, ◌∷◌, [], Some, take, length}
-use Rattle.lf_model.specs.Execution.{IsExecution}
+use Rattle.lf_model.specs.Promise.Headline.{IsTsoExecution}
 use Rattle.lf_model.specs.Report.{report}
 use Rattle.lf_model.specs.declared.trace.Trace.{Trace}
 use Rattle.lf_worked.specs.Edits.{with_core, with_transfer, with_operation, with_watched, with_line, with_new_line, without_line}
@@ -33,7 +33,7 @@ number_twice_text : report number_twice ≡ text_lines (with_line 16 "L 0 1 4 40
 unfolding machine number_twice corrected_load_lines
 number_twice_text = refl
 
-number_twice_refused : IsExecution corrected_load_setup number_twice → ⊥
+number_twice_refused : IsTsoExecution corrected_load_setup number_twice → ⊥
 unfolding machine corrected_load_setup number_twice
 number_twice_refused h = apart 0 1 refl (h.once_cores 0 (lt 0 1 refl) 0 (lt 0 1 refl))
 
@@ -46,7 +46,7 @@ operation_of_no_core_text : report operation_of_no_core ≡ text_lines (with_lin
 unfolding machine operation_of_no_core corrected_load_lines
 operation_of_no_core_text = refl
 
-operation_of_no_core_refused : IsExecution corrected_load_setup operation_of_no_core → ⊥
+operation_of_no_core_refused : IsTsoExecution corrected_load_setup operation_of_no_core → ⊥
 unfolding machine corrected_load_setup operation_of_no_core
 operation_of_no_core_refused h = not_below 1 1 refl (h.once_order 0 (lt 0 1 refl))
 
@@ -59,7 +59,7 @@ transfer_of_no_core_text : report transfer_of_no_core ≡ text_lines (with_line 
 unfolding machine transfer_of_no_core byte_out_lines
 transfer_of_no_core_text = refl
 
-transfer_of_no_core_refused : IsExecution byte_out_setup transfer_of_no_core → ⊥
+transfer_of_no_core_refused : IsTsoExecution byte_out_setup transfer_of_no_core → ⊥
 unfolding machine byte_out_setup transfer_of_no_core
 transfer_of_no_core_refused h = not_below 1 1 refl (h.once_transfers 0 (lt 0 1 refl))
 
@@ -72,7 +72,7 @@ look_of_a_core_text : report look_of_a_core ≡ text_lines (with_line 13 "t 0 0 
 unfolding machine look_of_a_core scrubbed_word_lines
 look_of_a_core_text = refl
 
-look_of_a_core_refused : IsExecution scrubbed_word_setup look_of_a_core → ⊥
+look_of_a_core_refused : IsTsoExecution scrubbed_word_setup look_of_a_core → ⊥
 unfolding machine scrubbed_word_setup look_of_a_core
 look_of_a_core_refused h = apart 0 8 refl (h.once_transfers 0 (lt 0 4 refl))
 
@@ -85,7 +85,7 @@ store_of_the_scrubber_text : report store_of_the_scrubber ≡ text_lines (with_l
 unfolding machine store_of_the_scrubber scrubbed_word_lines
 store_of_the_scrubber_text = refl
 
-store_of_the_scrubber_refused : IsExecution scrubbed_word_setup store_of_the_scrubber → ⊥
+store_of_the_scrubber_refused : IsTsoExecution scrubbed_word_setup store_of_the_scrubber → ⊥
 unfolding machine scrubbed_word_setup store_of_the_scrubber
 store_of_the_scrubber_refused h = not_below 8 1 refl (h.once_transfers 2 (lt 2 4 refl))
 
@@ -98,7 +98,7 @@ fate_left_out_text : report fate_left_out ≡ text_lines (without_line 19 (with_
 unfolding machine fate_left_out same_bit_twice_lines
 fate_left_out_text = refl
 
-fate_left_out_refused : IsExecution same_bit_twice_setup fate_left_out → ⊥
+fate_left_out_refused : IsTsoExecution same_bit_twice_setup fate_left_out → ⊥
 unfolding machine same_bit_twice_setup fate_left_out
 fate_left_out_refused h = apart 1 2 refl h.once_final.fates_told
 
@@ -111,7 +111,7 @@ other_word_watched_text : report other_word_watched ≡ text_lines (with_new_lin
 unfolding machine other_word_watched scrubbed_word_lines
 other_word_watched_text = refl
 
-other_word_watched_refused : IsExecution scrubbed_word_setup other_word_watched → ⊥
+other_word_watched_refused : IsTsoExecution scrubbed_word_setup other_word_watched → ⊥
 unfolding machine scrubbed_word_setup other_word_watched
 other_word_watched_refused h = differ first_number 0x40001004 0x40001000 refl refl refl h.once_final.words_told
 
@@ -124,7 +124,7 @@ core_left_out_text : report core_left_out ≡ text_lines (without_line 3 (withou
 unfolding machine core_left_out byte_out_lines
 core_left_out_text = refl
 
-core_left_out_refused : IsExecution byte_out_setup core_left_out → ⊥
+core_left_out_refused : IsTsoExecution byte_out_setup core_left_out → ⊥
 unfolding machine byte_out_setup core_left_out
 core_left_out_refused h = apart 0 1 refl h.once_final.cores_told
 
@@ -137,7 +137,7 @@ loads_out_of_order_text : report loads_out_of_order ≡ text_lines (with_line 20
 unfolding machine loads_out_of_order three_lines_in_two_ways_lines
 loads_out_of_order_text = refl
 
-loads_out_of_order_refused : IsExecution three_lines_in_two_ways_setup loads_out_of_order → ⊥
+loads_out_of_order_refused : IsTsoExecution three_lines_in_two_ways_setup loads_out_of_order → ⊥
 unfolding machine three_lines_in_two_ways_setup loads_out_of_order
 loads_out_of_order_refused h = not_at_most 1 0 refl ((h.load_op 1 (lt 1 6 refl) refl).0 refl)
 
@@ -150,7 +150,7 @@ stores_out_of_order_text : report stores_out_of_order ≡ text_lines (with_line 
 unfolding machine stores_out_of_order stbar_drains_lines
 stores_out_of_order_text = refl
 
-stores_out_of_order_refused : IsExecution stbar_drains_setup stores_out_of_order → ⊥
+stores_out_of_order_refused : IsTsoExecution stbar_drains_setup stores_out_of_order → ⊥
 unfolding machine stbar_drains_setup stores_out_of_order
 stores_out_of_order_refused h = not_at_most 1 0 refl ((h.store_store 1 (lt 1 2 refl) refl).0 refl refl)
 
@@ -163,7 +163,7 @@ one_instruction_more_text : report one_instruction_more ≡ text_lines (with_lin
 unfolding machine one_instruction_more byte_out_lines
 one_instruction_more_text = refl
 
-one_instruction_more_refused : IsExecution byte_out_setup one_instruction_more → ⊥
+one_instruction_more_refused : IsTsoExecution byte_out_setup one_instruction_more → ⊥
 unfolding machine byte_out_setup one_instruction_more
 one_instruction_more_refused h = (h.thread 0 (lt 0 1 refl)).same
 
@@ -176,7 +176,7 @@ more_than_steps_text : report more_than_steps ≡ text_lines (with_line 3 "core 
 unfolding machine more_than_steps four_steps_lines
 more_than_steps_text = refl
 
-more_than_steps_refused : IsExecution four_steps_setup more_than_steps → ⊥
+more_than_steps_refused : IsTsoExecution four_steps_setup more_than_steps → ⊥
 unfolding machine four_steps_setup more_than_steps
 more_than_steps_refused h = not_at_most 7 4 refl (h.thread 0 (lt 0 1 refl)).within
 
@@ -189,7 +189,7 @@ other_address_text : report other_address ≡ text_lines (with_line 16 "L 0 0 4 
 unfolding machine other_address corrected_load_lines
 other_address_text = refl
 
-other_address_refused : IsExecution corrected_load_setup other_address → ⊥
+other_address_refused : IsTsoExecution corrected_load_setup other_address → ⊥
 unfolding machine corrected_load_setup other_address
 other_address_refused h = differ first_address 0x40001000 0x40001010 refl refl refl (h.thread 0 (lt 0 1 refl)).same
 
@@ -202,7 +202,7 @@ other_number_stored_text : report other_number_stored ≡ text_lines (with_line 
 unfolding machine other_number_stored lost_byte_store_lines
 other_number_stored_text = refl
 
-other_number_stored_refused : IsExecution lost_byte_store_setup other_number_stored → ⊥
+other_number_stored_refused : IsTsoExecution lost_byte_store_setup other_number_stored → ⊥
 unfolding machine lost_byte_store_setup other_number_stored
 other_number_stored_refused h = differ (put_of 1) 0x77 0x76 refl refl refl (h.thread 0 (lt 0 1 refl)).same
 
@@ -219,7 +219,7 @@ one_operation_fewer_text : report one_operation_fewer ≡ text_lines (without_li
 unfolding machine one_operation_fewer own_store_updates_lines
 one_operation_fewer_text = refl
 
-one_operation_fewer_refused : IsExecution own_store_updates_setup one_operation_fewer → ⊥
+one_operation_fewer_refused : IsTsoExecution own_store_updates_setup one_operation_fewer → ⊥
 unfolding machine own_store_updates_setup one_operation_fewer
 one_operation_fewer_refused h = differ length 3 2 refl refl refl (h.thread 0 (lt 0 1 refl)).same
 
@@ -232,7 +232,7 @@ byte_never_stored_text : report byte_never_stored ≡ text_lines (with_line 17 "
 unfolding machine byte_never_stored struck_tag_lines
 byte_never_stored_text = refl
 
-byte_never_stored_refused : IsExecution struck_tag_setup byte_never_stored → ⊥
+byte_never_stored_refused : IsTsoExecution struck_tag_setup byte_never_stored → ⊥
 unfolding machine struck_tag_setup byte_never_stored
 byte_never_stored_refused h = apart 0x20 0 refl (h.value 0 (lt 0 2 refl) refl 0x40001002 refl)
 
@@ -245,7 +245,7 @@ stale_load_text : report stale_load ≡ text_lines (with_line 34 "L 1 2 12 40001
 unfolding machine stale_load message_passing_lines
 stale_load_text = refl
 
-stale_load_refused : IsExecution message_passing_setup stale_load → ⊥
+stale_load_refused : IsTsoExecution message_passing_setup stale_load → ⊥
 unfolding machine message_passing_setup stale_load
 stale_load_refused h = apart 0 1 refl (h.value 4 (lt 4 5 refl) refl 0x40001003 refl)
 
@@ -258,7 +258,7 @@ own_store_not_seen_text : report own_store_not_seen ≡ text_lines (with_line 18
 unfolding machine own_store_not_seen own_store_updates_lines
 own_store_not_seen_text = refl
 
-own_store_not_seen_refused : IsExecution own_store_updates_setup own_store_not_seen → ⊥
+own_store_not_seen_refused : IsTsoExecution own_store_updates_setup own_store_not_seen → ⊥
 unfolding machine own_store_updates_setup own_store_not_seen
 own_store_not_seen_refused h = apart 0x22 0x77 refl (h.value 1 (lt 1 3 refl) refl 0x40001001 refl)
 
@@ -271,6 +271,6 @@ atomic_reads_old_text : report atomic_reads_old ≡ text_lines (with_line 37 "A 
 unfolding machine atomic_reads_old three_cores_swap_lines
 atomic_reads_old_text = refl
 
-atomic_reads_old_refused : IsExecution three_cores_swap_setup atomic_reads_old → ⊥
+atomic_reads_old_refused : IsTsoExecution three_cores_swap_setup atomic_reads_old → ⊥
 unfolding machine three_cores_swap_setup atomic_reads_old
 atomic_reads_old_refused h = apart 0x5A 3 refl (h.value 1 (lt 1 3 refl) refl 0x40001003 refl)

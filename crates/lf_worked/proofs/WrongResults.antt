@@ -1,7 +1,7 @@
 -- Wrong reports whose results are not those of the execution.
 use Rattle.std.specs.Prelude.{◌≡◌, refl, ◌∷◌, [], Some}
+use Rattle.lf_model.specs.Promise.Headline.{Headline}
 use Rattle.lf_model.specs.Report.{report}
-use Rattle.lf_model.specs.Results.{HasResults}
 use Rattle.lf_model.specs.declared.trace.CoreEnd.TheVariants.{Halt, Limit}
 use Rattle.lf_model.specs.declared.trace.Trace.{Trace}
 use Rattle.lf_worked.specs.Edits.{at, with_core, with_operation, with_watched, with_line}
@@ -26,9 +26,9 @@ output_text : report output ≡ text_lines (with_line 4 "out 0 42" byte_out_line
 unfolding machine output byte_out_lines
 output_text = refl
 
-output_refused : HasResults byte_out_setup output → ⊥
+output_refused : Headline byte_out_setup output → ⊥
 unfolding machine byte_out_setup output
-output_refused h = differ first_number 0x42 0x41 refl refl refl (h.cores 0 (lt 0 1 refl)).out
+output_refused h = differ first_number 0x42 0x41 refl refl refl (h.results 0 (lt 0 1 refl)).out
 
 -- another window in PSR
 unfoldable psr : Trace
@@ -39,9 +39,9 @@ psr_text : report psr ≡ text_lines (with_line 9 "ctl 0 F3000082 00000002 00000
 unfolding machine psr byte_out_lines
 psr_text = refl
 
-psr_refused : HasResults byte_out_setup psr → ⊥
+psr_refused : Headline byte_out_setup psr → ⊥
 unfolding machine byte_out_setup psr
-psr_refused h = apart 0xF3000082 0xF3000080 refl (h.cores 0 (lt 0 1 refl)).psr
+psr_refused h = apart 0xF3000082 0xF3000080 refl (h.results 0 (lt 0 1 refl)).psr
 
 -- another WIM
 unfoldable wim : Trace
@@ -52,9 +52,9 @@ wim_text : report wim ≡ text_lines (with_line 9 "ctl 0 F3000080 000000B2 00000
 unfolding machine wim byte_out_lines
 wim_text = refl
 
-wim_refused : HasResults byte_out_setup wim → ⊥
+wim_refused : Headline byte_out_setup wim → ⊥
 unfolding machine byte_out_setup wim
-wim_refused h = apart 0xB2 2 refl (h.cores 0 (lt 0 1 refl)).wim
+wim_refused h = apart 0xB2 2 refl (h.results 0 (lt 0 1 refl)).wim
 
 -- another TBR
 unfoldable tbr : Trace
@@ -65,9 +65,9 @@ tbr_text : report tbr ≡ text_lines (with_line 9 "ctl 0 F3000080 00000002 00000
 unfolding machine tbr byte_out_lines
 tbr_text = refl
 
-tbr_refused : HasResults byte_out_setup tbr → ⊥
+tbr_refused : Headline byte_out_setup tbr → ⊥
 unfolding machine byte_out_setup tbr
-tbr_refused h = apart 0xD 0 refl (h.cores 0 (lt 0 1 refl)).tbr
+tbr_refused h = apart 0xD 0 refl (h.results 0 (lt 0 1 refl)).tbr
 
 -- another Y
 unfoldable y_register : Trace
@@ -78,9 +78,9 @@ y_register_text : report y_register ≡ text_lines (with_line 9 "ctl 0 F3A00080 
 unfolding machine y_register unsigned_quotient_lines
 y_register_text = refl
 
-y_register_refused : HasResults unsigned_quotient_setup y_register → ⊥
+y_register_refused : Headline unsigned_quotient_setup y_register → ⊥
 unfolding machine unsigned_quotient_setup y_register
-y_register_refused h = apart 0 1 refl (h.cores 0 (lt 0 1 refl)).y
+y_register_refused h = apart 0 1 refl (h.results 0 (lt 0 1 refl)).y
 
 -- PC after the load that was stopped
 unfoldable pc : Trace
@@ -91,9 +91,9 @@ pc_text : report pc ≡ text_lines (with_line 9 "ctl 0 F3000080 00000002 0000000
 unfolding machine pc stop_at_load_lines
 pc_text = refl
 
-pc_refused : HasResults stop_at_load_setup pc → ⊥
+pc_refused : Headline stop_at_load_setup pc → ⊥
 unfolding machine stop_at_load_setup pc
-pc_refused h = apart 0x4000000C 0x40000008 refl (h.cores 0 (lt 0 1 refl)).pc
+pc_refused h = apart 0x4000000C 0x40000008 refl (h.results 0 (lt 0 1 refl)).pc
 
 -- another nPC
 unfoldable npc : Trace
@@ -104,9 +104,9 @@ npc_text : report npc ≡ text_lines (with_line 9 "ctl 0 F3000080 00000002 00000
 unfolding machine npc byte_out_lines
 npc_text = refl
 
-npc_refused : HasResults byte_out_setup npc → ⊥
+npc_refused : Headline byte_out_setup npc → ⊥
 unfolding machine byte_out_setup npc
-npc_refused h = apart 0x40006010 0x40000010 refl (h.cores 0 (lt 0 1 refl)).npc
+npc_refused h = apart 0x40006010 0x40000010 refl (h.results 0 (lt 0 1 refl)).npc
 
 -- another value of %g1
 unfoldable register : Trace
@@ -117,9 +117,9 @@ register_text : report register ≡ text_lines (with_line 5 "g 0 00000000 800900
 unfolding machine register byte_out_lines
 register_text = refl
 
-register_refused : HasResults byte_out_setup register → ⊥
+register_refused : Headline byte_out_setup register → ⊥
 unfolding machine byte_out_setup register
-register_refused h = apart 0x80090000 0x80000000 refl ((h.cores 0 (lt 0 1 refl)).registers 1 (lt 1 32 refl))
+register_refused h = apart 0x80090000 0x80000000 refl ((h.results 0 (lt 0 1 refl)).registers 1 (lt 1 32 refl))
 
 -- the register of a load that was stopped, reported as written
 unfoldable written_before_a_stop : Trace
@@ -130,9 +130,9 @@ written_before_a_stop_text : report written_before_a_stop ≡ text_lines (with_l
 unfolding machine written_before_a_stop stop_at_load_lines
 written_before_a_stop_text = refl
 
-written_before_a_stop_refused : HasResults stop_at_load_setup written_before_a_stop → ⊥
+written_before_a_stop_refused : Headline stop_at_load_setup written_before_a_stop → ⊥
 unfolding machine stop_at_load_setup written_before_a_stop
-written_before_a_stop_refused h = apart 0x5A 0 refl ((h.cores 0 (lt 0 1 refl)).registers 8 (lt 8 32 refl))
+written_before_a_stop_refused h = apart 0x5A 0 refl ((h.results 0 (lt 0 1 refl)).registers 8 (lt 8 32 refl))
 
 -- a halt by another trap
 unfoldable other_trap : Trace
@@ -143,9 +143,9 @@ other_trap_text : report other_trap ≡ text_lines (with_line 3 "core 0 halt 79 
 unfolding machine other_trap byte_out_lines
 other_trap_text = refl
 
-other_trap_refused : HasResults byte_out_setup other_trap → ⊥
+other_trap_refused : Headline byte_out_setup other_trap → ⊥
 unfolding machine byte_out_setup other_trap
-other_trap_refused h = differ if_some 0x81 0x7A refl refl refl (h.cores 0 (lt 0 1 refl)).halt
+other_trap_refused h = differ if_some 0x81 0x7A refl refl refl (h.results 0 (lt 0 1 refl)).halt
 
 -- a limit reported of a core that halted
 unfoldable limit_for_a_halt : Trace
@@ -156,9 +156,9 @@ limit_for_a_halt_text : report limit_for_a_halt ≡ text_lines (with_line 3 "cor
 unfolding machine limit_for_a_halt five_steps_lines
 limit_for_a_halt_text = refl
 
-limit_for_a_halt_refused : HasResults five_steps_setup limit_for_a_halt → ⊥
+limit_for_a_halt_refused : Headline five_steps_setup limit_for_a_halt → ⊥
 unfolding machine five_steps_setup limit_for_a_halt
-limit_for_a_halt_refused h = differ if_some 0x81 0 refl refl refl (h.cores 0 (lt 0 1 refl)).halt
+limit_for_a_halt_refused h = differ if_some 0x81 0 refl refl refl (h.results 0 (lt 0 1 refl)).halt
 
 -- a limit before all steps are made
 unfoldable limit_before_the_last_step : Trace
@@ -169,9 +169,9 @@ limit_before_the_last_step_text : report limit_before_the_last_step ≡ text_lin
 unfolding machine limit_before_the_last_step four_steps_lines
 limit_before_the_last_step_text = refl
 
-limit_before_the_last_step_refused : HasResults four_steps_setup limit_before_the_last_step → ⊥
+limit_before_the_last_step_refused : Headline four_steps_setup limit_before_the_last_step → ⊥
 unfolding machine four_steps_setup limit_before_the_last_step
-limit_before_the_last_step_refused h = apart 3 4 refl (h.cores 0 (lt 0 1 refl)).ends
+limit_before_the_last_step_refused h = apart 3 4 refl (h.results 0 (lt 0 1 refl)).ends
 
 -- more steps than the configuration allows
 unfoldable more_steps_than_allowed : Trace
@@ -182,9 +182,9 @@ more_steps_than_allowed_text : report more_steps_than_allowed ≡ text_lines (wi
 unfolding machine more_steps_than_allowed five_steps_lines
 more_steps_than_allowed_text = refl
 
-more_steps_than_allowed_refused : HasResults five_steps_setup more_steps_than_allowed → ⊥
+more_steps_than_allowed_refused : Headline five_steps_setup more_steps_than_allowed → ⊥
 unfolding machine five_steps_setup more_steps_than_allowed
-more_steps_than_allowed_refused h = not_at_most 6 5 refl (h.cores 0 (lt 0 1 refl)).within
+more_steps_than_allowed_refused h = not_at_most 6 5 refl (h.results 0 (lt 0 1 refl)).within
 
 -- a step that neither counts an instruction nor makes a transfer
 unfoldable idle_step : Trace
@@ -195,9 +195,9 @@ idle_step_text : report idle_step ≡ text_lines (with_line 3 "core 0 halt 80 4 
 unfolding machine idle_step byte_out_lines
 idle_step_text = refl
 
-idle_step_refused : HasResults byte_out_setup idle_step → ⊥
+idle_step_refused : Headline byte_out_setup idle_step → ⊥
 unfolding machine byte_out_setup idle_step
-idle_step_refused h = not_at_most 6 5 refl (h.cores 0 (lt 0 1 refl)).bound
+idle_step_refused h = not_at_most 6 5 refl (h.results 0 (lt 0 1 refl)).bound
 
 -- a lost store of a core that halted
 unfoldable lost_without_a_stop : Trace
@@ -208,9 +208,9 @@ lost_without_a_stop_text : report lost_without_a_stop ≡ text_lines (with_line 
 unfolding machine lost_without_a_stop store_buffering_lines
 lost_without_a_stop_text = refl
 
-lost_without_a_stop_refused : HasResults store_buffering_setup lost_without_a_stop → ⊥
+lost_without_a_stop_refused : Headline store_buffering_setup lost_without_a_stop → ⊥
 unfolding machine store_buffering_setup lost_without_a_stop
-lost_without_a_stop_refused h = (h.cores 0 (lt 0 2 refl)).lost (lt 0 1 refl)
+lost_without_a_stop_refused h = (h.results 0 (lt 0 2 refl)).lost (lt 0 1 refl)
 
 -- another value of a watched word
 unfoldable watched_word : Trace
@@ -221,6 +221,6 @@ watched_word_text : report watched_word ≡ text_lines (with_line 22 "w 40001000
 unfolding machine watched_word scrubbed_word_lines
 watched_word_text = refl
 
-watched_word_refused : HasResults scrubbed_word_setup watched_word → ⊥
+watched_word_refused : Headline scrubbed_word_setup watched_word → ⊥
 unfolding machine scrubbed_word_setup watched_word
-watched_word_refused h = apart 0x06000001 1 refl (h.final 0 (lt 0 1 refl))
+watched_word_refused h = apart 0x06000001 1 refl (h.words 0 (lt 0 1 refl))

@@ -1,6 +1,6 @@
--- Wrong reports that execution and results let through, and so did the promise of a machine without a ledger. Each is refused
--- by what the course of its core gives.
-use Rattle.std.specs.Prelude.{◌≡◌, refl, ◌∷◌, [], Some, None}
+-- Wrong reports that the rules of the execution and the results of the core let through, as is shown of each. They are refused by
+-- what the course of the core and the run of the bus give.
+use Rattle.std.specs.Prelude.{◌≡◌, refl, ◌&&◌, ◌∷◌, [], Some, None, true}
 use Rattle.lf_model.specs.Ledger.Rule.{KeepsLedger}
 use Rattle.lf_model.specs.Report.{report}
 use Rattle.lf_model.specs.declared.trace.CoreEnd.TheVariants.{Halt, Stop}
@@ -8,6 +8,9 @@ use Rattle.lf_model.specs.declared.trace.Trace.{Trace}
 use Rattle.lf_worked.specs.Edits.{at, with_core, with_transfer, with_operation, with_fate, with_line, with_new_line}
 use Rattle.lf_worked.specs.Machine.{machine}
 use Rattle.lf_worked.specs.Rows.{transfer, load, store, text_lines}
+use Rattle.lf_worked.proofs.Numerals.{passes_below}
+use Rattle.lf_worked.proofs.ExecutionTest.{is_execution}
+use Rattle.lf_worked.proofs.ResultsTest.{result_at}
 use Rattle.lf_worked.proofs.Items.{differ, owed_by, error_count, way_hit, kind_needed, address_of, syndromes, fate}
 use Rattle.lf_model.specs.declared.trace.Fate.TheVariants as fates
 use Rattle.lf_model.specs.declared.bus.TurnKind.TheVariants as kinds
@@ -33,6 +36,10 @@ steps_of_other_instructions_refused : KeepsLedger overwritten_before_it_is_read_
 unfolding machine overwritten_before_it_is_read_setup steps_of_other_instructions
 steps_of_other_instructions_refused h = differ (owed_by 0) 1 0 refl refl refl h.same
 
+steps_of_other_instructions_passes : (is_execution overwritten_before_it_is_read_setup steps_of_other_instructions && passes_below (result_at overwritten_before_it_is_read_setup steps_of_other_instructions) 1) ≡ true
+unfolding machine overwritten_before_it_is_read_setup steps_of_other_instructions
+steps_of_other_instructions_passes = refl
+
 -- A fill before the limit that no instruction asked for.
 unfoldable fill_nobody_asked_for : Trace
 unfolding three_steps_trace
@@ -54,6 +61,10 @@ fill_nobody_asked_for_refused_2 : KeepsLedger three_steps_setup fill_nobody_aske
 unfolding machine three_steps_setup fill_nobody_asked_for
 fill_nobody_asked_for_refused_2 h = differ (address_of 1) 0 0x40000000 refl refl refl h.same
 
+fill_nobody_asked_for_passes : (is_execution three_steps_setup fill_nobody_asked_for && passes_below (result_at three_steps_setup fill_nobody_asked_for) 1) ≡ true
+unfolding machine three_steps_setup fill_nobody_asked_for
+fill_nobody_asked_for_passes = refl
+
 -- Address and syndromes of the transfer of a stop.
 unfoldable other_line_of_a_stop : Trace
 unfolding stop_at_load_trace
@@ -71,6 +82,10 @@ other_line_of_a_stop_refused_2 : KeepsLedger stop_at_load_setup other_line_of_a_
 unfolding machine stop_at_load_setup other_line_of_a_stop
 other_line_of_a_stop_refused_2 h = differ (syndromes 1) 0x0500000000000000 0 refl refl refl h.same
 
+other_line_of_a_stop_passes : (is_execution stop_at_load_setup other_line_of_a_stop && passes_below (result_at stop_at_load_setup other_line_of_a_stop) 1) ≡ true
+unfolding machine stop_at_load_setup other_line_of_a_stop
+other_line_of_a_stop_passes = refl
+
 -- A wanted word that was bad, and no stop.
 unfoldable bad_word_and_no_stop : Trace
 unfolding stop_at_load_trace
@@ -84,6 +99,10 @@ bad_word_and_no_stop_refused : KeepsLedger stop_at_load_setup bad_word_and_no_st
 unfolding machine stop_at_load_setup bad_word_and_no_stop
 bad_word_and_no_stop_refused h = differ (error_count 0) 1 0 refl refl refl h.same
 
+bad_word_and_no_stop_passes : (is_execution stop_at_load_setup bad_word_and_no_stop && passes_below (result_at stop_at_load_setup bad_word_and_no_stop) 1) ≡ true
+unfolding machine stop_at_load_setup bad_word_and_no_stop
+bad_word_and_no_stop_passes = refl
+
 -- A byte store that met a bad word, and no stop.
 unfoldable bad_store_and_no_stop : Trace
 unfolding lost_byte_store_trace
@@ -96,6 +115,10 @@ bad_store_and_no_stop_text = refl
 bad_store_and_no_stop_refused : KeepsLedger lost_byte_store_setup bad_store_and_no_stop → ⊥
 unfolding machine lost_byte_store_setup bad_store_and_no_stop
 bad_store_and_no_stop_refused h = differ (error_count 0) 1 0 refl refl refl h.same
+
+bad_store_and_no_stop_passes : (is_execution lost_byte_store_setup bad_store_and_no_stop && passes_below (result_at lost_byte_store_setup bad_store_and_no_stop) 1) ≡ true
+unfolding machine lost_byte_store_setup bad_store_and_no_stop
+bad_store_and_no_stop_passes = refl
 
 -- A fix that leaves its word as it was, so that the next flip makes it bad and another is declined.
 unfoldable fix_that_writes_nothing : Trace
@@ -118,6 +141,10 @@ fix_that_writes_nothing_refused_3 : KeepsLedger fixed_word_takes_two_flips_setup
 unfolding machine fixed_word_takes_two_flips_setup fix_that_writes_nothing
 fix_that_writes_nothing_refused_3 h = differ (fate 2) 7 2 refl refl refl h.same
 
+fix_that_writes_nothing_passes : (is_execution fixed_word_takes_two_flips_setup fix_that_writes_nothing && passes_below (result_at fixed_word_takes_two_flips_setup fix_that_writes_nothing) 1) ≡ true
+unfolding machine fixed_word_takes_two_flips_setup fix_that_writes_nothing
+fix_that_writes_nothing_passes = refl
+
 -- A way that the cache does not have.
 unfoldable way_without_a_line : Trace
 unfolding corrected_load_trace
@@ -130,3 +157,7 @@ way_without_a_line_text = refl
 way_without_a_line_refused : KeepsLedger corrected_load_setup way_without_a_line → ⊥
 unfolding machine corrected_load_setup way_without_a_line
 way_without_a_line_refused h = differ (way_hit 0) 1 8 refl refl refl h.same
+
+way_without_a_line_passes : (is_execution corrected_load_setup way_without_a_line && passes_below (result_at corrected_load_setup way_without_a_line) 1) ≡ true
+unfolding machine corrected_load_setup way_without_a_line
+way_without_a_line_passes = refl

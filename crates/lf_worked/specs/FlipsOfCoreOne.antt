@@ -1,9 +1,9 @@
 -- Flips of one core's arrays leave the other's alone.
--- Both cores make the same loads. Checked: %g1 of core 1 is read and written back in step 3, cell 20 is not used; the second load of
--- core 1 fills again by `data`, and its step 5 fetches again by `tag`; core 0 does neither.
+-- Both cores make the same loads. Checked: %g1 of core 1 is read and written back in step 3; its %l4 (cell 20) has two turned bits and
+-- no value, and that of core 0 has one; the second load of core 1 fills again by `data`, and its step 5 fetches again by `tag`; core 0 does neither.
 use Prim.Native.String.{String}
 use Rattle.std.specs.Prelude.{ℕ, ◌∷◌, [], List, true, false}
-use Rattle.lf_worked.specs.Rows.{range, code_at, data_at, plain, known, transfer, load, parity, text_lines}
+use Rattle.lf_worked.specs.Rows.{range, code_at, data_at, plain, known, known_but, transfer, load, parity, text_lines}
 use Rattle.lf_model.specs.declared.setup.Setup.{Setup}
 use Rattle.lf_model.specs.declared.setup.Event.{Event}
 use Rattle.lf_model.specs.declared.trace.Trace.{Trace}
@@ -31,6 +31,7 @@ flips_of_core_one_setup = record {
   flips =
       flips.Reg 1 3 1 4
       ∷ flips.Reg 1 3 20 0
+      ∷ flips.Reg 1 3 20 1
       ∷ flips.Line 1 4 false 0 0 4 3
       ∷ flips.Tag 1 5 true 0 0 0 0 ∷ [];
 }
@@ -64,7 +65,7 @@ flips_of_core_one_trace = record {
         n = 4;
         steps = 8;
         out = [];
-        regs = known (
+        regs = known_but (20 ∷ []) (
             0x00000000 ∷ 0x40001000 ∷ 0x00000000 ∷ 0x00000000 ∷ 0x00000000 ∷ 0x00000000 ∷ 0x00000000 ∷ 0x00000000
             ∷ 0x00000001 ∷ 0x00000001 ∷ 0x00000002 ∷ 0x00000000 ∷ 0x00000000 ∷ 0x00000000 ∷ 0x00000000 ∷ 0x00000000
             ∷ 0x00000000 ∷ 0x00000000 ∷ 0x00000000 ∷ 0x00000000 ∷ 0x00000000 ∷ 0x00000000 ∷ 0x00000000 ∷ 0x00000000
@@ -91,7 +92,9 @@ flips_of_core_one_trace = record {
       ∷ load 0 1 4 0x40001004 4 0x00000002 0
       ∷ load 1 0 3 0x40001000 4 0x00000001 0
       ∷ load 1 1 6 0x40001004 4 0x00000002 0 ∷ [];
-  fates = fates.Repaired ∷ fates.Dormant ∷ fates.Discarded ∷ fates.Discarded ∷ [];
+  fates =
+      fates.Repaired ∷ fates.Dormant ∷ fates.Dormant ∷ fates.Discarded
+      ∷ fates.Discarded ∷ [];
   watch = [];
 }
 
@@ -111,7 +114,7 @@ flips_of_core_one_lines =
     ∷ "out 1 -"
     ∷ "g 1 00000000 40001000 00000000 00000000 00000000 00000000 00000000 00000000"
     ∷ "o 1 00000001 00000001 00000002 00000000 00000000 00000000 00000000 00000000"
-    ∷ "l 1 00000000 00000000 00000000 00000000 00000000 00000000 00000000 00000000"
+    ∷ "l 1 00000000 00000000 00000000 00000000 -------- 00000000 00000000 00000000"
     ∷ "i 1 00000000 00000000 00000000 00000000 00000000 00000000 00000000 00000000"
     ∷ "ctl 1 F3000080 00000002 00000000 00000000 4000000C 40000010"
     ∷ "parity 1 1 0 0 1"
@@ -128,11 +131,12 @@ flips_of_core_one_lines =
     ∷ "L 0 1 4 40001004 00000002 0"
     ∷ "L 1 0 3 40001000 00000001 0"
     ∷ "L 1 1 6 40001004 00000002 0"
-    ∷ "flips 4"
+    ∷ "flips 5"
     ∷ "f 0 repaired"
     ∷ "f 1 dormant"
-    ∷ "f 2 discarded"
+    ∷ "f 2 dormant"
     ∷ "f 3 discarded"
+    ∷ "f 4 discarded"
     ∷ "watch 0"
     ∷ "end" ∷ []
 

@@ -38,6 +38,13 @@ pub mod SnoopChecksTags
 pub mod StoreChecksTags
 pub mod FlipsOfCoreOne
 pub mod CellOfTheNumberOfATurn
+pub mod DiscardedByteStaysStruck
+pub mod StoreWritesStruckBytes
+pub mod StoreToAWordNotValid
+pub mod FillOfAPresentLine
+pub mod FlipInAnotherWindow
+pub mod BothOperandsAreRead
+pub mod AtomicWritesItsRegister
 pub mod FetchAfterStruckTag
 pub mod FetchAfterStruckByte
 pub mod FetchBadWord
@@ -80,3 +87,4 @@ pub mod ByteOfZero
 pub mod OverwrittenBeforeItIsRead
 pub mod ThreeSteps
 pub mod FixedWordTakesTwoFlips
+pub mod StoreAfterALostOne

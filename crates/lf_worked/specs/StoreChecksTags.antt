@@ -1,6 +1,6 @@
 -- A store checks the tags of its set before it updates the line.
 -- Step 4 strikes a tag byte of the resident line, and the store of that step drops it. Checked: the counter is 1 and the flip
--- discarded; the load drains first (`miss`), and its own look dropped nothing, so the fill is by `absent`.
+-- discarded, though no load looks; the drop wrote the byte, so it takes another flip in step 5 (dormant).
 use Prim.Native.String.{String}
 use Rattle.std.specs.Prelude.{ℕ, ◌∷◌, [], List, false}
 use Rattle.lf_worked.specs.Rows.{range, code_at, data_at, plain, known, transfer, load, store, parity, text_lines}
@@ -22,14 +22,15 @@ store_checks_tags_setup = record {
         0x03100004  -- sethi %hi(0x40001000), %g1
         ∷ 0xD0004000  -- ld [%g1], %o0
         ∷ 0xC2204000  -- st %g1, [%g1]
-        ∷ 0xD2004000  -- ld [%g1], %o1
         ∷ 0x91D02000  -- ta 0x0
         ∷ [])
         ∷ data_at 0x40001000 (0x0000005A ∷ []) ∷ [];
-    text = range 0x40000000 20 ∷ [];
+    text = range 0x40000000 16 ∷ [];
   };
   config = plain;
-  flips = flips.Tag 0 4 false 0 0 2 7 ∷ [];
+  flips =
+      flips.Tag 0 4 false 0 0 2 7
+      ∷ flips.Tag 0 5 false 0 0 2 6 ∷ [];
 }
 
 unfoldable pub store_checks_tags_events : List Event
@@ -39,20 +40,20 @@ unfoldable pub store_checks_tags_trace : Trace
 store_checks_tags_trace = record {
   cores = record {
     end = Halt 0x80;
-    n = 5;
-    steps = 9;
+    n = 4;
+    steps = 7;
     out = [];
     regs = known (
         0x00000000 ∷ 0x40001000 ∷ 0x00000000 ∷ 0x00000000 ∷ 0x00000000 ∷ 0x00000000 ∷ 0x00000000 ∷ 0x00000000
-        ∷ 0x0000005A ∷ 0x40001000 ∷ 0x00000000 ∷ 0x00000000 ∷ 0x00000000 ∷ 0x00000000 ∷ 0x00000000 ∷ 0x00000000
+        ∷ 0x0000005A ∷ 0x00000000 ∷ 0x00000000 ∷ 0x00000000 ∷ 0x00000000 ∷ 0x00000000 ∷ 0x00000000 ∷ 0x00000000
         ∷ 0x00000000 ∷ 0x00000000 ∷ 0x00000000 ∷ 0x00000000 ∷ 0x00000000 ∷ 0x00000000 ∷ 0x00000000 ∷ 0x00000000
         ∷ 0x00000000 ∷ 0x00000000 ∷ 0x00000000 ∷ 0x00000000 ∷ 0x00000000 ∷ 0x00000000 ∷ 0x00000000 ∷ 0x00000000 ∷ []);
     psr = 0xF3000080;
     wim = 0x00000002;
     tbr = 0x00000000;
     y = 0x00000000;
-    pc = 0x40000010;
-    npc = 0x40000014;
+    pc = 0x4000000C;
+    npc = 0x40000010;
     parity = parity 0 0 1 0;
   } ∷ [];
   ahb_addr = 0x00000000;
@@ -60,13 +61,11 @@ store_checks_tags_trace = record {
   transfers =
       transfer 0 0 0 kinds.Fetch whys.Absent 0x40000000 0 8 0x0000000000000000
       ∷ transfer 1 0 2 kinds.Load whys.Absent 0x40001000 0 8 0x0000000000000000
-      ∷ transfer 2 0 5 kinds.Store whys.Miss 0x40001000 0 0 0
-      ∷ transfer 3 0 6 kinds.Load whys.Absent 0x40001000 0 8 0x0000000000000000 ∷ [];
+      ∷ transfer 2 0 5 kinds.Store whys.End 0x40001000 0 0 0 ∷ [];
   order =
       load 0 0 3 0x40001000 4 0x0000005A 0
-      ∷ store 0 1 4 0x40001000 4 0x40001000
-      ∷ load 0 2 7 0x40001000 4 0x40001000 0 ∷ [];
-  fates = fates.Discarded ∷ [];
+      ∷ store 0 1 4 0x40001000 4 0x40001000 ∷ [];
+  fates = fates.Discarded ∷ fates.Dormant ∷ [];
   watch = [];
 }
 
@@ -74,26 +73,25 @@ unfoldable pub store_checks_tags_lines : List String
 store_checks_tags_lines =
     "leon3ft report 1"
     ∷ "cores 1"
-    ∷ "core 0 halt 80 5 9"
+    ∷ "core 0 halt 80 4 7"
     ∷ "out 0 -"
     ∷ "g 0 00000000 40001000 00000000 00000000 00000000 00000000 00000000 00000000"
-    ∷ "o 0 0000005A 40001000 00000000 00000000 00000000 00000000 00000000 00000000"
+    ∷ "o 0 0000005A 00000000 00000000 00000000 00000000 00000000 00000000 00000000"
     ∷ "l 0 00000000 00000000 00000000 00000000 00000000 00000000 00000000 00000000"
     ∷ "i 0 00000000 00000000 00000000 00000000 00000000 00000000 00000000 00000000"
-    ∷ "ctl 0 F3000080 00000002 00000000 00000000 40000010 40000014"
+    ∷ "ctl 0 F3000080 00000002 00000000 00000000 4000000C 40000010"
     ∷ "parity 0 0 0 1 0"
     ∷ "ahb 00000000 00000000"
-    ∷ "transfers 4"
+    ∷ "transfers 3"
     ∷ "t 0 0 0 fetch absent 40000000 0 0000000000000000"
     ∷ "t 1 0 2 load absent 40001000 0 0000000000000000"
-    ∷ "t 2 0 5 store miss 40001000 - --"
-    ∷ "t 3 0 6 load absent 40001000 0 0000000000000000"
-    ∷ "order 3"
+    ∷ "t 2 0 5 store end 40001000 - --"
+    ∷ "order 2"
     ∷ "L 0 0 3 40001000 0000005A 0"
     ∷ "S 0 1 4 40001000 40001000"
-    ∷ "L 0 2 7 40001000 40001000 0"
-    ∷ "flips 1"
+    ∷ "flips 2"
     ∷ "f 0 discarded"
+    ∷ "f 1 dormant"
     ∷ "watch 0"
     ∷ "end" ∷ []
 

@@ -1,0 +1,26 @@
+-- An atomic writes its register in its turn; SWAP reads it before.
+use Rattle.std.specs.Prelude.{◌≡◌, refl}
+use Rattle.lf_model.specs.Promise.Played.{IsPlayedBy}
+use Rattle.lf_model.specs.Report.{report}
+use Rattle.lf_worked.specs.Machine.{machine}
+use Rattle.lf_worked.specs.AtomicWritesItsRegister.{atomic_writes_its_register_setup, atomic_writes_its_register_events, atomic_writes_its_register_trace, atomic_writes_its_register_text}
+use Rattle.lf_worked.proofs.PromiseTest.{played}
+use Rattle.lf_worked.proofs.RecordTest.{kept_of, log_of, on_bus, named_by_all}
+use Rattle.lf_worked.proofs.RecordsTest.{RecordAt, BusRecordOf, status_of, bus_fates, record_ok, bus_record_ok}
+
+atomic_writes_its_register_report : report atomic_writes_its_register_trace ≡ atomic_writes_its_register_text
+unfolding machine atomic_writes_its_register_trace atomic_writes_its_register_text
+atomic_writes_its_register_report = refl
+
+atomic_writes_its_register_played : IsPlayedBy atomic_writes_its_register_setup atomic_writes_its_register_events atomic_writes_its_register_trace
+unfolding machine atomic_writes_its_register_setup atomic_writes_its_register_events atomic_writes_its_register_trace
+atomic_writes_its_register_played = played atomic_writes_its_register_setup atomic_writes_its_register_events atomic_writes_its_register_trace refl
+
+atomic_writes_its_register_record_0 : RecordAt atomic_writes_its_register_setup atomic_writes_its_register_trace 0
+unfolding machine atomic_writes_its_register_setup atomic_writes_its_register_trace
+atomic_writes_its_register_record_0 = record_ok atomic_writes_its_register_setup 0 (kept_of atomic_writes_its_register_setup atomic_writes_its_register_trace 0) (log_of atomic_writes_its_register_setup atomic_writes_its_register_trace) (on_bus atomic_writes_its_register_setup atomic_writes_its_register_trace) refl refl refl refl refl
+
+atomic_writes_its_register_bus_record : BusRecordOf atomic_writes_its_register_setup atomic_writes_its_register_trace
+unfolding machine atomic_writes_its_register_setup atomic_writes_its_register_trace
+atomic_writes_its_register_bus_record = bus_record_ok atomic_writes_its_register_setup (log_of atomic_writes_its_register_setup atomic_writes_its_register_trace) (on_bus atomic_writes_its_register_setup atomic_writes_its_register_trace) (status_of atomic_writes_its_register_trace) (bus_fates atomic_writes_its_register_setup atomic_writes_its_register_trace) (named_by_all atomic_writes_its_register_setup atomic_writes_its_register_trace)
+    refl refl refl refl refl refl

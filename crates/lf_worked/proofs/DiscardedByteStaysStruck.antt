@@ -1,0 +1,26 @@
+-- A byte for which its line was dropped stays struck until it is written.
+use Rattle.std.specs.Prelude.{◌≡◌, refl}
+use Rattle.lf_model.specs.Promise.Played.{IsPlayedBy}
+use Rattle.lf_model.specs.Report.{report}
+use Rattle.lf_worked.specs.Machine.{machine}
+use Rattle.lf_worked.specs.DiscardedByteStaysStruck.{discarded_byte_stays_struck_setup, discarded_byte_stays_struck_events, discarded_byte_stays_struck_trace, discarded_byte_stays_struck_text}
+use Rattle.lf_worked.proofs.PromiseTest.{played}
+use Rattle.lf_worked.proofs.RecordTest.{kept_of, log_of, on_bus, named_by_all}
+use Rattle.lf_worked.proofs.RecordsTest.{RecordAt, BusRecordOf, status_of, bus_fates, record_ok, bus_record_ok}
+
+discarded_byte_stays_struck_report : report discarded_byte_stays_struck_trace ≡ discarded_byte_stays_struck_text
+unfolding machine discarded_byte_stays_struck_trace discarded_byte_stays_struck_text
+discarded_byte_stays_struck_report = refl
+
+discarded_byte_stays_struck_played : IsPlayedBy discarded_byte_stays_struck_setup discarded_byte_stays_struck_events discarded_byte_stays_struck_trace
+unfolding machine discarded_byte_stays_struck_setup discarded_byte_stays_struck_events discarded_byte_stays_struck_trace
+discarded_byte_stays_struck_played = played discarded_byte_stays_struck_setup discarded_byte_stays_struck_events discarded_byte_stays_struck_trace refl
+
+discarded_byte_stays_struck_record_0 : RecordAt discarded_byte_stays_struck_setup discarded_byte_stays_struck_trace 0
+unfolding machine discarded_byte_stays_struck_setup discarded_byte_stays_struck_trace
+discarded_byte_stays_struck_record_0 = record_ok discarded_byte_stays_struck_setup 0 (kept_of discarded_byte_stays_struck_setup discarded_byte_stays_struck_trace 0) (log_of discarded_byte_stays_struck_setup discarded_byte_stays_struck_trace) (on_bus discarded_byte_stays_struck_setup discarded_byte_stays_struck_trace) refl refl refl refl refl
+
+discarded_byte_stays_struck_bus_record : BusRecordOf discarded_byte_stays_struck_setup discarded_byte_stays_struck_trace
+unfolding machine discarded_byte_stays_struck_setup discarded_byte_stays_struck_trace
+discarded_byte_stays_struck_bus_record = bus_record_ok discarded_byte_stays_struck_setup (log_of discarded_byte_stays_struck_setup discarded_byte_stays_struck_trace) (on_bus discarded_byte_stays_struck_setup discarded_byte_stays_struck_trace) (status_of discarded_byte_stays_struck_trace) (bus_fates discarded_byte_stays_struck_setup discarded_byte_stays_struck_trace) (named_by_all discarded_byte_stays_struck_setup discarded_byte_stays_struck_trace)
+    refl refl refl refl refl refl

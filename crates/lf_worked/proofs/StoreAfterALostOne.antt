@@ -1,0 +1,30 @@
+-- Core 0 loses a store, and core 1 stores after it.
+use Rattle.std.specs.Prelude.{◌≡◌, refl}
+use Rattle.lf_model.specs.Promise.Played.{IsPlayedBy}
+use Rattle.lf_model.specs.Report.{report}
+use Rattle.lf_worked.specs.Machine.{machine}
+use Rattle.lf_worked.specs.StoreAfterALostOne.{store_after_a_lost_one_setup, store_after_a_lost_one_events, store_after_a_lost_one_trace, store_after_a_lost_one_text}
+use Rattle.lf_worked.proofs.PromiseTest.{played}
+use Rattle.lf_worked.proofs.RecordTest.{kept_of, log_of, on_bus, named_by_all}
+use Rattle.lf_worked.proofs.RecordsTest.{RecordAt, BusRecordOf, status_of, bus_fates, record_ok, bus_record_ok}
+
+store_after_a_lost_one_report : report store_after_a_lost_one_trace ≡ store_after_a_lost_one_text
+unfolding machine store_after_a_lost_one_trace store_after_a_lost_one_text
+store_after_a_lost_one_report = refl
+
+store_after_a_lost_one_played : IsPlayedBy store_after_a_lost_one_setup store_after_a_lost_one_events store_after_a_lost_one_trace
+unfolding machine store_after_a_lost_one_setup store_after_a_lost_one_events store_after_a_lost_one_trace
+store_after_a_lost_one_played = played store_after_a_lost_one_setup store_after_a_lost_one_events store_after_a_lost_one_trace refl
+
+store_after_a_lost_one_record_0 : RecordAt store_after_a_lost_one_setup store_after_a_lost_one_trace 0
+unfolding machine store_after_a_lost_one_setup store_after_a_lost_one_trace
+store_after_a_lost_one_record_0 = record_ok store_after_a_lost_one_setup 0 (kept_of store_after_a_lost_one_setup store_after_a_lost_one_trace 0) (log_of store_after_a_lost_one_setup store_after_a_lost_one_trace) (on_bus store_after_a_lost_one_setup store_after_a_lost_one_trace) refl refl refl refl refl
+
+store_after_a_lost_one_record_1 : RecordAt store_after_a_lost_one_setup store_after_a_lost_one_trace 1
+unfolding machine store_after_a_lost_one_setup store_after_a_lost_one_trace
+store_after_a_lost_one_record_1 = record_ok store_after_a_lost_one_setup 1 (kept_of store_after_a_lost_one_setup store_after_a_lost_one_trace 1) (log_of store_after_a_lost_one_setup store_after_a_lost_one_trace) (on_bus store_after_a_lost_one_setup store_after_a_lost_one_trace) refl refl refl refl refl
+
+store_after_a_lost_one_bus_record : BusRecordOf store_after_a_lost_one_setup store_after_a_lost_one_trace
+unfolding machine store_after_a_lost_one_setup store_after_a_lost_one_trace
+store_after_a_lost_one_bus_record = bus_record_ok store_after_a_lost_one_setup (log_of store_after_a_lost_one_setup store_after_a_lost_one_trace) (on_bus store_after_a_lost_one_setup store_after_a_lost_one_trace) (status_of store_after_a_lost_one_trace) (bus_fates store_after_a_lost_one_setup store_after_a_lost_one_trace) (named_by_all store_after_a_lost_one_setup store_after_a_lost_one_trace)
+    refl refl refl refl refl refl

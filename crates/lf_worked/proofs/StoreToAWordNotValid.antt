@@ -1,0 +1,26 @@
+-- A store to a word that is not valid writes none of its bytes in the cache.
+use Rattle.std.specs.Prelude.{◌≡◌, refl}
+use Rattle.lf_model.specs.Promise.Played.{IsPlayedBy}
+use Rattle.lf_model.specs.Report.{report}
+use Rattle.lf_worked.specs.Machine.{machine}
+use Rattle.lf_worked.specs.StoreToAWordNotValid.{store_to_a_word_not_valid_setup, store_to_a_word_not_valid_events, store_to_a_word_not_valid_trace, store_to_a_word_not_valid_text}
+use Rattle.lf_worked.proofs.PromiseTest.{played}
+use Rattle.lf_worked.proofs.RecordTest.{kept_of, log_of, on_bus, named_by_all}
+use Rattle.lf_worked.proofs.RecordsTest.{RecordAt, BusRecordOf, status_of, bus_fates, record_ok, bus_record_ok}
+
+store_to_a_word_not_valid_report : report store_to_a_word_not_valid_trace ≡ store_to_a_word_not_valid_text
+unfolding machine store_to_a_word_not_valid_trace store_to_a_word_not_valid_text
+store_to_a_word_not_valid_report = refl
+
+store_to_a_word_not_valid_played : IsPlayedBy store_to_a_word_not_valid_setup store_to_a_word_not_valid_events store_to_a_word_not_valid_trace
+unfolding machine store_to_a_word_not_valid_setup store_to_a_word_not_valid_events store_to_a_word_not_valid_trace
+store_to_a_word_not_valid_played = played store_to_a_word_not_valid_setup store_to_a_word_not_valid_events store_to_a_word_not_valid_trace refl
+
+store_to_a_word_not_valid_record_0 : RecordAt store_to_a_word_not_valid_setup store_to_a_word_not_valid_trace 0
+unfolding machine store_to_a_word_not_valid_setup store_to_a_word_not_valid_trace
+store_to_a_word_not_valid_record_0 = record_ok store_to_a_word_not_valid_setup 0 (kept_of store_to_a_word_not_valid_setup store_to_a_word_not_valid_trace 0) (log_of store_to_a_word_not_valid_setup store_to_a_word_not_valid_trace) (on_bus store_to_a_word_not_valid_setup store_to_a_word_not_valid_trace) refl refl refl refl refl
+
+store_to_a_word_not_valid_bus_record : BusRecordOf store_to_a_word_not_valid_setup store_to_a_word_not_valid_trace
+unfolding machine store_to_a_word_not_valid_setup store_to_a_word_not_valid_trace
+store_to_a_word_not_valid_bus_record = bus_record_ok store_to_a_word_not_valid_setup (log_of store_to_a_word_not_valid_setup store_to_a_word_not_valid_trace) (on_bus store_to_a_word_not_valid_setup store_to_a_word_not_valid_trace) (status_of store_to_a_word_not_valid_trace) (bus_fates store_to_a_word_not_valid_setup store_to_a_word_not_valid_trace) (named_by_all store_to_a_word_not_valid_setup store_to_a_word_not_valid_trace)
+    refl refl refl refl refl refl

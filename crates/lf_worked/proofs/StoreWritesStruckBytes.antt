@@ -1,0 +1,26 @@
+-- A store writes the struck bytes that it stores in the resident line.
+use Rattle.std.specs.Prelude.{◌≡◌, refl}
+use Rattle.lf_model.specs.Promise.Played.{IsPlayedBy}
+use Rattle.lf_model.specs.Report.{report}
+use Rattle.lf_worked.specs.Machine.{machine}
+use Rattle.lf_worked.specs.StoreWritesStruckBytes.{store_writes_struck_bytes_setup, store_writes_struck_bytes_events, store_writes_struck_bytes_trace, store_writes_struck_bytes_text}
+use Rattle.lf_worked.proofs.PromiseTest.{played}
+use Rattle.lf_worked.proofs.RecordTest.{kept_of, log_of, on_bus, named_by_all}
+use Rattle.lf_worked.proofs.RecordsTest.{RecordAt, BusRecordOf, status_of, bus_fates, record_ok, bus_record_ok}
+
+store_writes_struck_bytes_report : report store_writes_struck_bytes_trace ≡ store_writes_struck_bytes_text
+unfolding machine store_writes_struck_bytes_trace store_writes_struck_bytes_text
+store_writes_struck_bytes_report = refl
+
+store_writes_struck_bytes_played : IsPlayedBy store_writes_struck_bytes_setup store_writes_struck_bytes_events store_writes_struck_bytes_trace
+unfolding machine store_writes_struck_bytes_setup store_writes_struck_bytes_events store_writes_struck_bytes_trace
+store_writes_struck_bytes_played = played store_writes_struck_bytes_setup store_writes_struck_bytes_events store_writes_struck_bytes_trace refl
+
+store_writes_struck_bytes_record_0 : RecordAt store_writes_struck_bytes_setup store_writes_struck_bytes_trace 0
+unfolding machine store_writes_struck_bytes_setup store_writes_struck_bytes_trace
+store_writes_struck_bytes_record_0 = record_ok store_writes_struck_bytes_setup 0 (kept_of store_writes_struck_bytes_setup store_writes_struck_bytes_trace 0) (log_of store_writes_struck_bytes_setup store_writes_struck_bytes_trace) (on_bus store_writes_struck_bytes_setup store_writes_struck_bytes_trace) refl refl refl refl refl
+
+store_writes_struck_bytes_bus_record : BusRecordOf store_writes_struck_bytes_setup store_writes_struck_bytes_trace
+unfolding machine store_writes_struck_bytes_setup store_writes_struck_bytes_trace
+store_writes_struck_bytes_bus_record = bus_record_ok store_writes_struck_bytes_setup (log_of store_writes_struck_bytes_setup store_writes_struck_bytes_trace) (on_bus store_writes_struck_bytes_setup store_writes_struck_bytes_trace) (status_of store_writes_struck_bytes_trace) (bus_fates store_writes_struck_bytes_setup store_writes_struck_bytes_trace) (named_by_all store_writes_struck_bytes_setup store_writes_struck_bytes_trace)
+    refl refl refl refl refl refl

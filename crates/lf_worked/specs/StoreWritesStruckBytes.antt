@@ -1,0 +1,105 @@
+-- A store writes the struck bytes that it stores in the resident line.
+-- Step 4 strikes bytes 0, 3 and 5 and stores a word over bytes 0 to 3. Checked: the first two are overwritten, so that the load hits, and
+-- byte 5, of the next word, is dormant.
+use Prim.Native.String.{String}
+use Rattle.std.specs.Prelude.{ℕ, ◌∷◌, [], List, false}
+use Rattle.lf_worked.specs.Rows.{range, code_at, data_at, plain, known, transfer, load, store, parity, text_lines}
+use Rattle.lf_model.specs.declared.setup.Setup.{Setup}
+use Rattle.lf_model.specs.declared.setup.Event.{Event}
+use Rattle.lf_model.specs.declared.trace.Trace.{Trace}
+use Rattle.lf_model.specs.declared.trace.CoreEnd.TheVariants.{Halt}
+use Rattle.lf_model.specs.declared.flip.Flip.TheVariants as flips
+use Rattle.lf_model.specs.declared.trace.Fate.TheVariants as fates
+use Rattle.lf_model.specs.declared.bus.TurnKind.TheVariants as kinds
+use Rattle.lf_model.specs.declared.bus.Why.TheVariants as whys
+
+unfoldable pub store_writes_struck_bytes_setup : Setup
+store_writes_struck_bytes_setup = record {
+  image = record {
+    entry = 0x40000000;
+    segments =
+        code_at 0x40000000 (
+        0x03100004  -- sethi %hi(0x40001000), %g1
+        ∷ 0xD0004000  -- ld [%g1], %o0
+        ∷ 0xC2204000  -- st %g1, [%g1]
+        ∷ 0xD2004000  -- ld [%g1], %o1
+        ∷ 0x91D02000  -- ta 0x0
+        ∷ [])
+        ∷ data_at 0x40001000 (0x0000005A ∷ []) ∷ [];
+    text = range 0x40000000 20 ∷ [];
+  };
+  config = plain;
+  flips =
+      flips.Line 0 4 false 0 0 0 0
+      ∷ flips.Line 0 4 false 0 0 3 0
+      ∷ flips.Line 0 4 false 0 0 5 0 ∷ [];
+}
+
+unfoldable pub store_writes_struck_bytes_events : List Event
+store_writes_struck_bytes_events = []
+
+unfoldable pub store_writes_struck_bytes_trace : Trace
+store_writes_struck_bytes_trace = record {
+  cores = record {
+    end = Halt 0x80;
+    n = 5;
+    steps = 8;
+    out = [];
+    regs = known (
+        0x00000000 ∷ 0x40001000 ∷ 0x00000000 ∷ 0x00000000 ∷ 0x00000000 ∷ 0x00000000 ∷ 0x00000000 ∷ 0x00000000
+        ∷ 0x0000005A ∷ 0x40001000 ∷ 0x00000000 ∷ 0x00000000 ∷ 0x00000000 ∷ 0x00000000 ∷ 0x00000000 ∷ 0x00000000
+        ∷ 0x00000000 ∷ 0x00000000 ∷ 0x00000000 ∷ 0x00000000 ∷ 0x00000000 ∷ 0x00000000 ∷ 0x00000000 ∷ 0x00000000
+        ∷ 0x00000000 ∷ 0x00000000 ∷ 0x00000000 ∷ 0x00000000 ∷ 0x00000000 ∷ 0x00000000 ∷ 0x00000000 ∷ 0x00000000 ∷ []);
+    psr = 0xF3000080;
+    wim = 0x00000002;
+    tbr = 0x00000000;
+    y = 0x00000000;
+    pc = 0x40000010;
+    npc = 0x40000014;
+    parity = parity 0 0 0 0;
+  } ∷ [];
+  ahb_addr = 0x00000000;
+  ahb_status = 0x00000000;
+  transfers =
+      transfer 0 0 0 kinds.Fetch whys.Absent 0x40000000 0 8 0x0000000000000000
+      ∷ transfer 1 0 2 kinds.Load whys.Absent 0x40001000 0 8 0x0000000000000000
+      ∷ transfer 2 0 6 kinds.Store whys.End 0x40001000 0 0 0 ∷ [];
+  order =
+      load 0 0 3 0x40001000 4 0x0000005A 0
+      ∷ load 0 2 5 0x40001000 4 0x40001000 0
+      ∷ store 0 1 4 0x40001000 4 0x40001000 ∷ [];
+  fates = fates.Overwritten ∷ fates.Overwritten ∷ fates.Dormant ∷ [];
+  watch = [];
+}
+
+unfoldable pub store_writes_struck_bytes_lines : List String
+store_writes_struck_bytes_lines =
+    "leon3ft report 1"
+    ∷ "cores 1"
+    ∷ "core 0 halt 80 5 8"
+    ∷ "out 0 -"
+    ∷ "g 0 00000000 40001000 00000000 00000000 00000000 00000000 00000000 00000000"
+    ∷ "o 0 0000005A 40001000 00000000 00000000 00000000 00000000 00000000 00000000"
+    ∷ "l 0 00000000 00000000 00000000 00000000 00000000 00000000 00000000 00000000"
+    ∷ "i 0 00000000 00000000 00000000 00000000 00000000 00000000 00000000 00000000"
+    ∷ "ctl 0 F3000080 00000002 00000000 00000000 40000010 40000014"
+    ∷ "parity 0 0 0 0 0"
+    ∷ "ahb 00000000 00000000"
+    ∷ "transfers 3"
+    ∷ "t 0 0 0 fetch absent 40000000 0 0000000000000000"
+    ∷ "t 1 0 2 load absent 40001000 0 0000000000000000"
+    ∷ "t 2 0 6 store end 40001000 - --"
+    ∷ "order 3"
+    ∷ "L 0 0 3 40001000 0000005A 0"
+    ∷ "L 0 2 5 40001000 40001000 0"
+    ∷ "S 0 1 4 40001000 40001000"
+    ∷ "flips 3"
+    ∷ "f 0 overwritten"
+    ∷ "f 1 overwritten"
+    ∷ "f 2 dormant"
+    ∷ "watch 0"
+    ∷ "end" ∷ []
+
+unfoldable pub store_writes_struck_bytes_text : List ℕ
+unfolding store_writes_struck_bytes_lines
+store_writes_struck_bytes_text = text_lines store_writes_struck_bytes_lines
