@@ -55,26 +55,3 @@ impl From<Fault> for ImageErr {
         }
     }
 }
-
-#[cfg(test)]
-mod tests {
-    use super::*;
-    use std::test::Fail;
-
-    #[test]
-    fn prints_errors(rt: HostRuntime) -> Result<(), Fail> {
-        let refused = ImageErr::Refused {
-            number: 8,
-            offset: 18,
-        };
-        let rows = [
-            (refused, "refused at byte 18: Machine"),
-            (ImageErr::Memory, "no memory is left"),
-        ];
-        for (error, want) in rows {
-            let text = error.to_string(rt.alloc())?;
-            assert_eq!(rt; text.as_str(), want);
-        }
-        Ok(())
-    }
-}

@@ -43,31 +43,3 @@ impl From<AllocError> for ConfigErr {
         ConfigErr::Memory
     }
 }
-
-#[cfg(test)]
-mod tests {
-    use super::*;
-    use std::test::Fail;
-
-    #[test]
-    fn prints_errors(rt: HostRuntime) -> Result<(), Fail> {
-        let rows = [
-            (ConfigErr::Text, "the text is no TOML document"),
-            (ConfigErr::Key, "there is an unknown key"),
-            (
-                ConfigErr::Kind(Key::Ram),
-                "the value of machine.ram is of another kind",
-            ),
-            (
-                ConfigErr::Range(Key::LoadSets),
-                "the value of dcache.sets is out of its range",
-            ),
-            (ConfigErr::Memory, "no memory is left"),
-        ];
-        for (error, want) in rows {
-            let text = error.to_string(rt.alloc())?;
-            assert_eq!(rt; text.as_str(), want);
-        }
-        Ok(())
-    }
-}

@@ -82,30 +82,3 @@ impl From<AllocError> for TextErr {
         TextErr::Memory
     }
 }
-
-#[cfg(test)]
-mod tests {
-    use super::*;
-    use std::test::Fail;
-
-    #[test]
-    fn prints_errors(rt: HostRuntime) -> Result<(), Fail> {
-        let rows = [
-            (TextWhy::Word, "line 7: the first field is not known"),
-            (TextWhy::Many, "line 7: there are too many flips"),
-            (
-                TextWhy::Count,
-                "line 7: there are too few or too many fields",
-            ),
-            (TextWhy::Number, "line 7: a field is not of its form"),
-            (TextWhy::Range, "line 7: a value is out of its range"),
-        ];
-        for (why, want) in rows {
-            let text = TextErr::At { line: 7, why }.to_string(rt.alloc())?;
-            assert_eq!(rt; text.as_str(), want);
-        }
-        let text = TextErr::Memory.to_string(rt.alloc())?;
-        assert_eq!(rt; text.as_str(), "no memory is left");
-        Ok(())
-    }
-}
