@@ -16,7 +16,7 @@
 //! 5. Tie the fields to the ghost value by the `invariant` of the `impl Model`. Each method then has to prove it.
 //!
 //! `src/tests.rt` is a small example. A `Ghost` may be moved, dropped, put into a struct literal, assigned to a field and kept
-//! in a `Vec` of structs, with no proof by hand. It is not `Copy` and not `Clone`, and goes to no other thread.
+//! in a `Vec` of structs, with no proof by hand. It is not `Copy` and not `Clone`, and has no `impl` of `Send` or `Sync`.
 //!
 //! # What may be relied on
 //!
