@@ -13,3 +13,4 @@ pub mod ResidenceLaw
 pub mod TagLemmas
 pub mod FillLemmas
 pub mod Resident
+pub mod BusLemmas

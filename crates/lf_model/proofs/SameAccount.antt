@@ -47,7 +47,7 @@ lists same test (x ∷ xs) (y ∷ ys) h = let p = both (same x y) (same_list sam
 on : {A B : Type 0} {f g : A → B} {a b : A} → f ≡ g → a ≡ b → f a ≡ g b
 on e h = rw (e, h) refl
 
-abbrev make_errors : ℕ → ℕ → ℕ → ℕ → ℕ → ErrorTrap
+abbrev make_errors : ℕ → ℕ → ℕ → ℕ → Option ℕ → ErrorTrap
 make_errors x0 x1 x2 x3 x4 = record { trap_type = x0; place = x1; syndrome = x2; steps = x3; turns = x4 }
 
 errors : (a b : ErrorTrap) → same_error a b ≡ true → a ≡ b
@@ -60,7 +60,7 @@ errors a b h =
     let e2 = numbers a.syndrome b.syndrome p2.0 in
     let p3 = both _ _ p2.1 in
     let e3 = numbers a.steps b.steps p3.0 in
-    let e4 = numbers a.turns b.turns p3.1 in
+    let e4 = options same_number numbers a.turns b.turns p3.1 in
     on (on (on (on (ap (make_errors) e0) e1) e2) e3) e4
 
 abbrev make_parities : ℕ → ℕ → ℕ → ℕ → Four

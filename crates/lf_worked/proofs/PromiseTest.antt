@@ -22,7 +22,7 @@ use Rattle.lf_model.specs.declared.trace.CoreResult.{CoreResult}
 use Rattle.lf_model.specs.declared.trace.Trace.{Trace}
 use Rattle.lf_model.specs.declared.trace.Word2.{Word2}
 use Rattle.lf_worked.proofs.Numerals.{passes_below, passes_at}
-use Rattle.lf_worked.proofs.Tests.{holds_if_some, same_list, is_same_list, same_numbers, is_same_numbers}
+use Rattle.lf_worked.proofs.Tests.{holds_if_some, same_list, is_same_list, same_numbers, is_same_numbers, is_same_option}
 use Rattle.lf_worked.proofs.ExecutionTest.{is_execution, execution}
 use Rattle.lf_worked.proofs.ResultsTest.{result_at, result_at-sound, word_at_end, word_at_end-sound}
 use Rattle.lf_worked.proofs.LedgerTest.{keeps_ledger, ledger}
@@ -44,7 +44,7 @@ is_same_error a b passes =
       place = eqb-true a.place b.place place.0 i;
       syndrome = eqb-true a.syndrome b.syndrome syndrome.0 i;
       steps = eqb-true a.steps b.steps steps.0 i;
-      turns = eqb-true a.turns b.turns steps.1 i;
+      turns = is_same_option a.turns b.turns steps.1 i;
     }
 
 -- ---- causes of stops, and blanks

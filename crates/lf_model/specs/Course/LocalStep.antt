@@ -74,7 +74,7 @@ register_errors a k (RegisterStop cell) = record {
   place = cell;
   syndrome = syndrome (history_at cell a.cells);
   steps = k.steps + 1;
-  turns = k.turns;
+  turns = None;
 } ∷ []
 register_errors a k NoTurn = []
 register_errors a k (Turn kind why) = []

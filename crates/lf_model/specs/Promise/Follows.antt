@@ -49,7 +49,9 @@ rounds (suc n) a = rounds n (round a)
 abbrev pub steps_of : CoreResult → ℕ
 steps_of r = r.steps
 
--- so many rounds are enough: in each, one step more or one transfer more is made, until all have ended
+-- so many rounds are enough: in each, every actor that has not ended makes a step, a last drain or a turn, and these are no more
+-- than the steps of all cores and all transfers. In rounds that are left over nothing is made. If the trace has fewer transfers than
+-- the scrubber has turns, that shows in the turns that are given.
 abbrev pub rounds_enough : Trace → ℕ
 rounds_enough trace = sum (map steps_of trace.cores) + length trace.transfers + 1
 
