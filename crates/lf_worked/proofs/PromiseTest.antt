@@ -1,5 +1,5 @@
 -- Whether all that is promised of a run holds of a trace, by a test that computes.
-use Rattle.std.proofs.Common.{ℕ, ◌≡◌, ◌&&◌, nat_le, Bool, true, false, refl, List, length, map, slice_get}
+use Rattle.std.proofs.Common.{ℕ, ◌≡◌, ◌&&◌, nat_le, Bool, true, false, refl, ap, List, length, map, slice_get, Option, Some, None}
 use Rattle.std.specs.Prelude.{◌==◌, is_none}
 use Rattle.std.specs.List.{list_all, range_with_len}
 use Rattle.std.specs.Option.{option_map_or}
@@ -8,7 +8,7 @@ use Rattle.lf_model.specs.Bus.Replay.{Core}
 use Rattle.lf_model.specs.Course.Progress.{ErrorTrap}
 use Rattle.lf_model.specs.Ledger.Account.{replay_of, is_bad_at}
 use Rattle.lf_model.specs.Ledger.CoreAccount.{blank_registers, errors_reported}
-use Rattle.lf_model.specs.Ledger.Same.{same_bool, same_error}
+use Rattle.lf_model.specs.Ledger.Same.{same_bool, same_number, same_option, same_error}
 use Rattle.lf_model.specs.Ledger.Steps.{own_transfers}
 use Rattle.lf_model.specs.Promise.Follows.{Follows, turns_of}
 use Rattle.lf_model.specs.Promise.Headline.{Headline, HasStopCause, HasBlanks, StopCauseAt, BlankAt, WatchAt}
@@ -22,7 +22,7 @@ use Rattle.lf_model.specs.declared.trace.CoreResult.{CoreResult}
 use Rattle.lf_model.specs.declared.trace.Trace.{Trace}
 use Rattle.lf_model.specs.declared.trace.Word2.{Word2}
 use Rattle.lf_worked.proofs.Numerals.{passes_below, passes_at}
-use Rattle.lf_worked.proofs.Tests.{holds_if_some, same_list, is_same_list, same_numbers, is_same_numbers, is_same_option}
+use Rattle.lf_worked.proofs.Tests.{holds_if_some, same_list, is_same_list, same_numbers, is_same_numbers}
 use Rattle.lf_worked.proofs.ExecutionTest.{is_execution, execution}
 use Rattle.lf_worked.proofs.ResultsTest.{result_at, result_at-sound, word_at_end, word_at_end-sound}
 use Rattle.lf_worked.proofs.LedgerTest.{keeps_ledger, ledger}
@@ -32,6 +32,12 @@ is_same_bool true true passes = refl
 is_same_bool false false passes = refl
 is_same_bool true false passes = absurd (false≢true passes)
 is_same_bool false true passes = absurd (false≢true passes)
+
+is_same_turn_count : (x y : Option ℕ) → same_option same_number x y ≡ true → x ≡ y
+is_same_turn_count None None passes = refl
+is_same_turn_count (Some x) (Some y) passes = ap Some (eqb-true x y passes)
+is_same_turn_count None (Some y) passes = absurd (false≢true passes)
+is_same_turn_count (Some x) None passes = absurd (false≢true passes)
 
 pub is_same_error : (a b : ErrorTrap) → same_error a b ≡ true → a ≡ b
 is_same_error a b passes =
@@ -44,7 +50,7 @@ is_same_error a b passes =
       place = eqb-true a.place b.place place.0 i;
       syndrome = eqb-true a.syndrome b.syndrome syndrome.0 i;
       steps = eqb-true a.steps b.steps steps.0 i;
-      turns = is_same_option a.turns b.turns steps.1 i;
+      turns = is_same_turn_count a.turns b.turns steps.1 i;
     }
 
 -- ---- causes of stops, and blanks
