@@ -7,6 +7,8 @@ mod LedgerTest
 mod PromiseTest
 mod RecordTest
 mod RecordsTest
+mod AllRecordsTest
+mod FirstPlaces
 mod Items
 mod ByteOut
 mod CorrectedLoad
