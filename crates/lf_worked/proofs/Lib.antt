@@ -109,3 +109,6 @@ mod WrongWithoutLedger
 mod WrongHeadline
 mod WrongSchedule
 mod WrongRanges
+mod WrongFirst
+mod WrongAlone
+mod WrongRecords
