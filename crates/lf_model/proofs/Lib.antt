@@ -14,3 +14,4 @@ pub mod TagLemmas
 pub mod FillLemmas
 pub mod Resident
 pub mod BusLemmas
+pub mod SyndromeLaw

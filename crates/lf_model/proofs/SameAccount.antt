@@ -25,7 +25,7 @@ both false q h = absurd cc
 numbers : (a b : ℕ) → same_number a b ≡ true → a ≡ b
 numbers a b h = eqb-true a b h
 
-bools : (a b : Bool) → same_bool a b ≡ true → a ≡ b
+pub bools : (a b : Bool) → same_bool a b ≡ true → a ≡ b
 bools true true h = refl
 bools true false h = absurd cc
 bools false true h = absurd cc
