@@ -15,3 +15,4 @@ pub mod FillLemmas
 pub mod Resident
 pub mod BusLemmas
 pub mod SyndromeLaw
+pub mod GoodCells
