@@ -82,11 +82,11 @@ good_set [] i h goes good = refl
 good_set (c ∷ cells) zero h goes good = let parts = or_parts (was_bad h) _ good in rw (goes parts.0, parts.1) refl
 good_set (c ∷ cells) (suc i) h goes good = let parts = or_parts (was_bad c) _ good in rw (parts.0, good_set cells i h goes parts.1) refl
 
-good_befalls : (happen : List Moment → List Moment) → Extends happen → (i : ℕ) (cells : List (List Moment)) → Good (befalls happen i cells) → Good cells
+pub good_befalls : (happen : List Moment → List Moment) → Extends happen → (i : ℕ) (cells : List (List Moment)) → Good (befalls happen i cells) → Good cells
 unfolding Extends
 good_befalls happen goes i cells good = good_set cells i (happen (history_at i cells)) (goes (history_at i cells)) good
 
-good_befalls_each : (happen : List Moment → List Moment) → Extends happen → (units : List ℕ) (cells : List (List Moment))
+pub good_befalls_each : (happen : List Moment → List Moment) → Extends happen → (units : List ℕ) (cells : List (List Moment))
     → Good (befalls_each happen units cells) → Good cells
 good_befalls_each happen goes [] cells good = good
 good_befalls_each happen goes (i ∷ units) cells good =
@@ -99,7 +99,7 @@ good_cache change true a good = good
 good_cache change false a good = good
 
 -- one of two arrays, of which the first goes on with the second
-good_if : (b : Bool) (x a : Arrays) → (Good x.cells → Good a.cells) → Good (if b then x else a).cells → Good a.cells
+pub good_if : (b : Bool) (x a : Arrays) → (Good x.cells → Good a.cells) → Good (if b then x else a).cells → Good a.cells
 good_if true x a goes good = goes good
 good_if false x a goes good = good
 
@@ -112,7 +112,7 @@ good_strike step number a (Tag core at fetch way set byte bit) good =
 good_strike step number a (Line core at fetch way set byte bit) good =
     good_if (at == step) (with_cache (struck_line number bit way set byte) fetch a) a (good_cache (struck_line number bit way set byte) fetch a) good
 
-good_begun : (flips : List (ℕ × Flip)) (step : ℕ) (a : Arrays) → Good (begun flips step a).cells → Good a.cells
+pub good_begun : (flips : List (ℕ × Flip)) (step : ℕ) (a : Arrays) → Good (begun flips step a).cells → Good a.cells
 good_begun [] step a good = good
 good_begun (flip ∷ flips) step a good = good_strike step flip.0 a flip.1 (good_begun flips step (strike step flip.0 a flip.1) good)
 
@@ -140,7 +140,7 @@ good_read (c ∷ cs) cells good =
 
 -- ---- the instruction is tried
 
-abbrev is_bad_register : Outcome → Bool
+abbrev pub is_bad_register : Outcome → Bool
 is_bad_register NotTried = false
 is_bad_register NoText = false
 is_bad_register (FetchMiss why) = false
@@ -154,9 +154,9 @@ is_bad_register (Barrier why) = false
 is_bad_register Other = false
 
 -- an attempt from these arrays, of whose cells none ever was bad, came to no bad register
-record TriedWell (a : Arrays) (x : Attempt) : Type 0 where
-  fine : is_bad_register x.outcome ≡ false
-  good : Good a.cells
+pub record TriedWell (a : Arrays) (x : Attempt) : Type 0 where
+  pub fine : is_bad_register x.outcome ≡ false
+  pub good : Good a.cells
 
 well_load : (a : Arrays) (cache : Cache) (answer : LookUp) → Good a.cells → TriedWell a (load_attempt a (record { answer = answer; cache = cache }))
 well_load a cache (Hit slot) good = record { fine = refl; good = good }
@@ -204,6 +204,6 @@ well_text s e a true looked good = let tried = well_fetch s e (record a { fetch_
     record { fine = tried.fine; good = tried.good }
 well_text s e a false looked good = record { fine = refl; good = good }
 
-tried_well : (image : Image) (s : State) (e : Effect) (a : Arrays) → Good (attempt image s e a).arrays.cells → TriedWell a (attempt image s e a)
+pub tried_well : (image : Image) (s : State) (e : Effect) (a : Arrays) → Good (attempt image s e a).arrays.cells → TriedWell a (attempt image s e a)
 unfolding attempt
 tried_well image s e a good = well_text s e a (is_text_word image.text s.ctl.pc) (look s.ctl.pc 4 a.fetch_cache) good

@@ -16,3 +16,4 @@ pub mod Resident
 pub mod BusLemmas
 pub mod SyndromeLaw
 pub mod GoodCells
+pub mod GoodCourse
