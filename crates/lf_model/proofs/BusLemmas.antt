@@ -1,15 +1,12 @@
 -- A transfer on the bus that is a snoop or in RAM: what memory answers it, and whether it enters the log, are the same by its kind
 -- alone, as the record of the bus says, and by the mark of a transfer that only catches up, as a core's course says.
-use Rattle.std.proofs.Common.{◌≡◌, ◌+◌, ◌==◌, ◌&&◌, ◌||◌, ℕ, Bool, true, false, not, nat_le, List, [], if◌then◌else◌, refl, ap, arith}
+use Rattle.std.proofs.Common.{◌≡◌, ◌+◌, ◌&&◌, ℕ, Bool, true, false, not, nat_le, List, [], if◌then◌else◌, refl, ap, arith}
 use Rattle.std.proofs.lemmas.Bool.{leb-true, ne_eqb, and_parts}
-use Rattle.std.specs.List.{list_any}
 use Rattle.lf_model.specs.Bus.Words.{Word, answered}
-use Rattle.lf_model.specs.Course.Syndromes.{syndromes_of, is_bad_syndrome, has_address, enters_log}
-use Rattle.lf_model.specs.Names.{same_kind}
+use Rattle.lf_model.specs.Course.Syndromes.{has_address, enters_log}
 use Rattle.lf_model.specs.Records.BusMemory.{shown}
 use Rattle.lf_model.specs.Records.BusRecord.{is_successful, is_in_memory}
 use Rattle.lf_model.specs.Start.{ram_first}
-use Rattle.lf_model.specs.TransferLines.{makes_entry}
 use Rattle.lf_model.specs.declared.bus.Transfer.{Transfer}
 use Rattle.lf_model.specs.declared.bus.TurnKind.{TurnKind}
 use Rattle.lf_model.specs.declared.bus.TurnKind.TheVariants.{Fetch, Load, Store, Atomic, Snoop, Look, Fix}

@@ -1,42 +1,26 @@
 -- A core of whose register cells none ever has two turned bits, and whose transfers met no bad word, meets no error trap.
-use Rattle.std.proofs.Common.{◌≡◌, ◌∙◌, ◌==◌, ◌||◌, ℕ, zero, suc, Bool, true, false, not, nat_lt, nat_le, List, [], ◌∷◌, ◌++◌, fold, find, refl, ap, sym, Option, Some, None, if◌then◌else◌}
+use Rattle.std.proofs.Common.{◌≡◌, ◌∙◌, ◌==◌, ◌||◌, ℕ, zero, suc, Bool, true, false, List, [], ◌∷◌, refl, ap, sym, Option, Some, None, if◌then◌else◌}
 use Rattle.std.proofs.lemmas.Bool.{or_parts, false≢true}
-use Rattle.std.proofs.lemmas.List.{append-nil}
 use Rattle.std.specs.List.{list_any}
-use Rattle.std.specs.List.{AllByRecursion as Each}
 use Rattle.std.specs.Prelude.{slice_set}
 use Rattle.lf_model.specs.Caches.Cache.{Cache}
 use Rattle.lf_model.specs.Caches.Look.{LookUp, Looked, look}
 use Rattle.lf_model.specs.Caches.Look.LookUp.{Hit, Miss}
-use Rattle.lf_model.specs.Caches.Slot.{history_at, befalls, befalls_each, written}
-use Rattle.lf_model.specs.Course.Arrays.{Arrays, CellsRead, with_cache, struck_by, struck_tag, struck_line, strike, begun, cells_of, read_back, read_then, read_cells, write_cells}
-use Rattle.lf_model.specs.Course.Attempt.{Attempt, comes_to, load_outcome, load_attempt, access_attempt, barrier_attempt, operation_attempt, trap_attempt, register_attempt, read_attempt, fetch_attempt, looked_attempt, attempt}
-use Rattle.lf_model.specs.Course.Core.{Ground}
-use Rattle.lf_model.specs.Course.Course.{up_to, observe, course, finished, others_turn}
-use Rattle.lf_model.specs.Course.LocalStep.{update_by, flush_by, retired_arrays, named_cell, register_errors, is_last_stop, local_step, local_steps}
-use Rattle.lf_model.specs.Course.Outcome.{Outcome, Need, drains, trap_needs, outcome_needs, step_needs}
-use Rattle.lf_model.specs.Course.Outcome.Need.{NoTurn, Turn, RegisterStop}
+use Rattle.lf_model.specs.Caches.Slot.{history_at, befalls, befalls_each}
+use Rattle.lf_model.specs.Course.Arrays.{Arrays, CellsRead, with_cache, struck_by, struck_tag, struck_line, strike, begun, cells_of, read_back, read_then, read_cells}
+use Rattle.lf_model.specs.Course.Attempt.{Attempt, comes_to, load_attempt, access_attempt, barrier_attempt, operation_attempt, trap_attempt, register_attempt, fetch_attempt, looked_attempt, attempt}
+use Rattle.lf_model.specs.Course.Outcome.{Outcome}
 use Rattle.lf_model.specs.Course.Outcome.Outcome.{NotTried, NoText, FetchMiss, BadRegister, OrdinaryTrap, LoadMiss, LoadHit, Store, Atomic, Barrier, Other}
-use Rattle.lf_model.specs.Course.Progress.{ErrorTrap, Progress, start, next_needs}
-use Rattle.lf_model.specs.Course.Syndromes.{met_bad, has_address, enters_log}
-use Rattle.lf_model.specs.Course.Turn.{is_past_steps, leaves_instruction, turn_attempt, arrays_before}
-use Rattle.lf_model.specs.Course.Turned.{exchanged, transferred, turn_wants, turn_errors, own_turn}
 use Rattle.lf_model.specs.Effect.{Access, Effect}
 use Rattle.lf_model.specs.Flips.{Moment, is_bad_word, is_fixed_word}
-use Rattle.lf_model.specs.Flips.How.{Whole, ByReadBack}
-use Rattle.lf_model.specs.Flips.Moment.{Struck, Written, Named}
-use Rattle.lf_model.specs.Names.{same_why}
+use Rattle.lf_model.specs.Flips.How.{ByReadBack}
+use Rattle.lf_model.specs.Flips.Moment.{Struck, Written}
 use Rattle.lf_model.specs.Promise.NeverStops.{was_bad}
-use Rattle.lf_model.specs.Run.{effect_at_pc}
 use Rattle.lf_model.specs.Start.{is_text_word}
 use Rattle.lf_model.specs.State.{State}
 use Rattle.lf_model.specs.declared.bus.OpKind.{OpKind}
 use Rattle.lf_model.specs.declared.bus.OpKind.TheVariants as kinds
-use Rattle.lf_model.specs.declared.bus.Transfer.{Transfer}
-use Rattle.lf_model.specs.declared.bus.TurnKind.{TurnKind}
-use Rattle.lf_model.specs.declared.bus.TurnKind.TheVariants as turns
 use Rattle.lf_model.specs.declared.bus.Why.{Why}
-use Rattle.lf_model.specs.declared.bus.Why.TheVariants.{Flush}
 use Rattle.lf_model.specs.declared.flip.Flip.{Flip}
 use Rattle.lf_model.specs.declared.flip.Flip.TheVariants.{Mem, Reg, Tag, Line}
 use Rattle.lf_model.specs.declared.image.Image.{Image}
@@ -66,7 +50,7 @@ reads_back h good = may_add (is_fixed_word h) (Written ByReadBack) h good
 -- ---- cells
 
 -- none of these cells ever was bad
-pub Good : List (List Moment) → Type 0
+unfoldable pub Good : List (List Moment) → Type 0
 Good cells = list_any was_bad cells ≡ false
 
 pub good_at : (cells : List (List Moment)) (i : ℕ) → Good cells → was_bad (history_at i cells) ≡ false

@@ -3,23 +3,22 @@ use Rattle.std.proofs.Common.{◌≡◌, ◌∙◌, ◌+◌, ◌-◌, ◌==◌, 
 use Rattle.std.proofs.lemmas.Bool.{false≢true}
 use Rattle.std.proofs.lemmas.List.{append-nil}
 use Rattle.std.specs.List.{AllByRecursion as Each}
-use Rattle.lf_model.specs.Caches.Slot.{befalls, written}
+use Rattle.lf_model.specs.Caches.Slot.{written}
 use Rattle.lf_model.specs.Course.Arrays.{Arrays, begun, write_cells}
-use Rattle.lf_model.specs.Course.Attempt.{Attempt, comes_to, attempt}
+use Rattle.lf_model.specs.Course.Attempt.{comes_to, attempt}
 use Rattle.lf_model.specs.Course.Core.{Ground}
 use Rattle.lf_model.specs.Course.Course.{up_to, observe, course, finished, others_turn}
 use Rattle.lf_model.specs.Course.LocalStep.{update_by, flush_by, retired_arrays, named_cell, register_errors, is_last_stop, local_step, local_steps}
 use Rattle.lf_model.specs.Course.Outcome.{Outcome, Need, drains, trap_needs, outcome_needs, step_needs}
 use Rattle.lf_model.specs.Course.Outcome.Need.{NoTurn, Turn, RegisterStop}
 use Rattle.lf_model.specs.Course.Outcome.Outcome.{NotTried, NoText, FetchMiss, BadRegister, OrdinaryTrap, LoadMiss, LoadHit, Store, Atomic, Barrier, Other}
-use Rattle.lf_model.specs.Course.Progress.{ErrorTrap, Progress, start, next_needs, store_waits, buffer_full}
+use Rattle.lf_model.specs.Course.Progress.{Progress, start, next_needs, store_waits, buffer_full}
 use Rattle.lf_model.specs.Course.Syndromes.{met_bad, has_address, enters_log}
-use Rattle.lf_model.specs.Course.Turn.{is_past_steps, leaves_instruction, turn_attempt, arrays_before}
-use Rattle.lf_model.specs.Course.Turned.{exchanged, transferred, turn_wants, bad_wanted, turn_errors, own_turn}
-use Rattle.lf_model.specs.Caches.Change.{snooped, updated, flushed}
+use Rattle.lf_model.specs.Course.Turn.{is_past_steps, leaves_instruction, arrays_before}
+use Rattle.lf_model.specs.Course.Turned.{exchanged, transferred, turn_wants, turn_errors, own_turn}
+use Rattle.lf_model.specs.Caches.Change.{snooped, updated}
 use Rattle.lf_model.specs.Course.Core.{is_store_kind}
 use Rattle.lf_model.specs.Effect.{Access, Effect}
-use Rattle.lf_model.specs.Flips.{Moment}
 use Rattle.lf_model.specs.Flips.How.{Whole}
 use Rattle.lf_model.specs.Flips.Moment.{Written, Named}
 use Rattle.lf_model.specs.Names.{same_why}
@@ -110,6 +109,17 @@ pub record GoesOn (k k' : Progress) : Type 0 where
   pub errors : k'.errors ≡ k.errors
   pub good : Good k.arrays.cells
 
+-- ---- what a transfer met
+
+-- no word that the transfer read was bad
+unfoldable pub IsClean : Transfer → Type 0
+IsClean t = (j : ℕ) → met_bad t j ≡ false
+
+none_found : (t : Transfer) → IsClean t → (wanted : List ℕ) → find (met_bad t) wanted ≡ None
+unfolding IsClean
+none_found t clean [] = refl
+none_found t clean (j ∷ wanted) = rw (clean j) (none_found t clean wanted)
+
 module _ (g : Ground) where
   pub goes_on : (k k' k'' : Progress) → GoesOn k k' → GoesOn k' k'' → GoesOn k k''
   goes_on k k' k'' h h' = record { errors = h'.errors ∙ h.errors; good = h.good }
@@ -120,8 +130,8 @@ module _ (g : Ground) where
       let e = effect_at_pc g.setup g.core k.run.state in
       let x = attempt g.setup.image k.run.state e (begun g.flips k.steps k.arrays) in
       let tried = tried_well g.setup.image k.run.state e (begun g.flips k.steps k.arrays)
-          (good_either (not (is_last_stop g k.steps)) (retired_arrays e x.arrays) (named_cell x.outcome x.arrays) x.arrays
-          (good_retired e x.arrays) (good_named x.outcome x.arrays) good) in
+      (good_either (not (is_last_stop g k.steps)) (retired_arrays e x.arrays) (named_cell x.outcome x.arrays) x.arrays
+      (good_retired e x.arrays) (good_named x.outcome x.arrays) good) in
       record {
         errors =
             ap (λ errors. k.errors ++ errors) (no_register_errors x.arrays k (next_needs g k x.outcome)
@@ -138,15 +148,6 @@ module _ (g : Ground) where
 
   -- ---- a turn
 
-  -- no word that the transfer read was bad
-  pub IsClean : Transfer → Type 0
-  IsClean t = (j : ℕ) → met_bad t j ≡ false
-
-  none_found : (t : Transfer) → IsClean t → (wanted : List ℕ) → find (met_bad t) wanted ≡ None
-  unfolding IsClean
-  none_found t clean [] = refl
-  none_found t clean (j ∷ wanted) = rw (clean j) (none_found t clean wanted)
-
   good_exchanged : (e : Effect) (t : Transfer) (a : Arrays) → Good (exchanged e t a).cells → Good a.cells
   good_exchanged e t a good = good_if (enters_log t) (write_cells e.writes (record a { data_cache = snooped a.data_cache t.addr })) a
       (good_written e.writes (record a { data_cache = snooped a.data_cache t.addr })) good
@@ -162,7 +163,7 @@ module _ (g : Ground) where
 
   good_left : (past leaves : Bool) (k : Progress) (e : Effect)
       → Good (if past then comes_to NotTried k.arrays else if leaves then comes_to NotTried (begun g.flips k.steps k.arrays)
-          else attempt g.setup.image k.run.state e (begun g.flips k.steps k.arrays)).arrays.cells → Good k.arrays.cells
+      else attempt g.setup.image k.run.state e (begun g.flips k.steps k.arrays)).arrays.cells → Good k.arrays.cells
   good_left true leaves k e good = good
   good_left false true k e good = good_begun g.flips k.steps k.arrays good
   good_left false false k e good =

@@ -17,3 +17,5 @@ pub mod BusLemmas
 pub mod SyndromeLaw
 pub mod GoodCells
 pub mod GoodCourse
+pub mod GoodWords
+pub mod NeverStops

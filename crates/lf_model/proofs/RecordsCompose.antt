@@ -9,7 +9,7 @@ use Rattle.std.proofs.lemmas.Simd.{map-map}
 use Rattle.std.specs.List.{slice_get}
 use Rattle.std.specs.Option.{option_map}
 use Rattle.lf_model.proofs.ReplayLemmas.{made_in, made_from, core_over, core_after_all, cores_after}
-use Rattle.lf_model.specs.Bus.Replay.{Core, Made, Replay, core_start, name_of, replay_start, made_by_core, made_by_walk, made_by_scrubber, made_turn, replay_turn, core_finished, replay_finished}
+use Rattle.lf_model.specs.Bus.Replay.{Core, Made, Replay, core_start, name_of, replay_start, made_by_core, made_by_walk, made_turn, replay_turn, core_finished, replay_finished}
 use Rattle.lf_model.specs.Bus.Walk.{Walk, scrubber, next_transfer, walk_start, walk_by, walk_after}
 use Rattle.lf_model.specs.Bus.Words.{Word, words_begun, answered, with_name, write_by, with_write, words_after}
 use Rattle.lf_model.specs.Course.Core.{Ground}
@@ -21,7 +21,7 @@ use Rattle.lf_model.specs.Course.Turn.{addressed}
 use Rattle.lf_model.specs.Course.Turned.{bad_wanted}
 use Rattle.lf_model.specs.Ledger.Account.{TurnAccount, without_length, turn_made, need_reported, turn_reported, core_account}
 use Rattle.lf_model.specs.Ledger.CoreAccount.{core_by_course}
-use Rattle.lf_model.specs.Records.BusMemory.{Memory, is_named, with_names, shown, memory_start, memory_turn, memory_after}
+use Rattle.lf_model.specs.Records.BusMemory.{Memory, is_named, with_names, memory_start, memory_turn, memory_after}
 use Rattle.lf_model.specs.Records.OwnTurns.{IsRightTurn, next_effect}
 use Rattle.lf_model.specs.declared.bus.Transfer.{Transfer}
 use Rattle.lf_model.specs.declared.setup.Setup.{Setup}

@@ -1,10 +1,10 @@
 -- A word is bad by its syndrome, which is neither 0 nor a column, exactly where two of its bits are turned. This holds since the
 -- columns are 39 different numbers, none of them 0, each with an odd number of ones; here it is computed for all pairs of bits.
-use Rattle.std.proofs.Common.{◌≡◌, ◌∙◌, ◌+◌, ◌<◌, ◌≤◌, ◌%◌, ◌==◌, ◌&&◌, ◌⊎◌, inl, inr, ℕ, zero, suc, Bool, true, false, nat_lt, List, [], ◌∷◌, length, filter, refl, ap, ap₂, sym, arith, if◌then◌else◌}
-use Rattle.std.proofs.lemmas.Bool.{false≢true, eqb-true, ltb-true, lt-ltb, ne_eqb, and_parts, cases_eq}
+use Rattle.std.proofs.Common.{◌≡◌, ◌∙◌, ◌<◌, ◌≤◌, ◌==◌, ◌&&◌, inl, inr, ℕ, zero, suc, Bool, true, false, nat_lt, List, [], ◌∷◌, length, filter, refl, ap, sym, arith, if◌then◌else◌}
+use Rattle.std.proofs.lemmas.Bool.{false≢true, ltb-true, lt-ltb, ne_eqb, and_parts, cases_eq}
 use Rattle.lf_num.specs.Columns.{columns, column, columns_sum}
 use Rattle.lf_model.specs.Course.Syndromes.{is_bad_syndrome}
-use Rattle.lf_model.specs.Flips.{Moment, Standing, struck, standing, places_below, is_turned, turned, turned_bits, is_bad_word, syndrome, word_budget}
+use Rattle.lf_model.specs.Flips.{Moment, Standing, struck, standing, places_below, is_turned, turned, is_bad_word, syndrome, word_budget}
 use Rattle.lf_model.specs.Flips.Moment.{Struck, Written, Found, Named}
 use Rattle.lf_model.specs.Ledger.Same.{same_bool}
 use Rattle.lf_model.proofs.SameAccount.{bools}

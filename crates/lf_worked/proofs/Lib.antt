@@ -112,3 +112,4 @@ mod WrongRanges
 mod WrongFirst
 mod WrongAlone
 mod WrongRecords
+mod NeverBad
