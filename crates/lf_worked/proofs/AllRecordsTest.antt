@@ -1,6 +1,6 @@
 -- Whether all records of a worked report are right together: each core's and the bus's, the walk of the scrubber, and the watched
 -- words.
-use Rattle.std.proofs.Common.{ℕ, zero, suc, ◌≡◌, ◌<◌, ◌+◌, ◌&&◌, Bool, true, arith, List, length, map, slice_get}
+use Rattle.std.proofs.Common.{ℕ, zero, suc, ◌≡◌, ◌<◌, ◌&&◌, Bool, true, arith, List, length, map, slice_get}
 use Rattle.std.specs.Prelude.{◌==◌}
 use Rattle.std.specs.List.{range_with_len}
 use Rattle.std.specs.Option.{option_map_or}
@@ -17,7 +17,7 @@ use Rattle.lf_model.specs.declared.setup.Setup.{Setup}
 use Rattle.lf_model.specs.declared.trace.Trace.{Trace}
 use Rattle.lf_worked.proofs.LedgerTest.{is_same_transfer}
 use Rattle.lf_worked.proofs.Numerals.{passes_below, passes_at}
-use Rattle.lf_worked.proofs.RecordTest.{kept_of, log_of, on_bus, named_by_all}
+use Rattle.lf_worked.proofs.RecordTest.{kept_of, log_of, on_bus}
 use Rattle.lf_worked.proofs.RecordsTest.{status_of, bus_fates}
 use Rattle.lf_worked.proofs.Tests.{implies, implied, holds_if_some}
 use Rattle.std.specs.Prelude.{take}

@@ -1,5 +1,5 @@
 -- At which place the ledger of a trace fails first: where tests that compute pass at all places before it, and it fails there.
-use Rattle.std.proofs.Common.{ℕ, ◌≡◌, ◌<◌, ◌&&◌, nat_lt, Bool, true, arith, inl, inr, refl, List, length, slice_get, Some}
+use Rattle.std.proofs.Common.{ℕ, ◌≡◌, ◌&&◌, nat_lt, Bool, true, arith, inl, inr, refl, length, slice_get, Some}
 use Rattle.std.proofs.lemmas.Bool.{ltb-true, and_parts}
 use Rattle.lf_model.proofs.SameAccount.{options, cores, places, turns}
 use Rattle.lf_model.proofs.SameNames.{fates_same}
@@ -100,8 +100,13 @@ module _ (setup : Setup) (trace : Trace) where
   fails_at_order i within before fails =
       let parts = and_parts cores_pass _ before in
       let first = and_parts steps_pass _ parts.0 in
-      inl (steps_hold setup trace _ first.0, inl (cores_hold given reported _ first.1,
-      inr (i, (ltb-true i _ within, fails, order_holds given reported i parts.1), refl)))
+      inl (
+        steps_hold setup trace _ first.0,
+        inl (
+          cores_hold given reported _ first.1,
+          inr (i, (ltb-true i _ within, fails, order_holds given reported i parts.1), refl),
+        ),
+      )
 
   -- at a transfer
   pub fails_at_transfer : (i : ℕ) → nat_lt i (length trace.transfers) ≡ true → order_passes && transfers_to given reported i ≡ true
@@ -110,8 +115,16 @@ module _ (setup : Setup) (trace : Trace) where
       let parts = and_parts order_passes _ before in
       let second = and_parts cores_pass _ parts.0 in
       let first = and_parts steps_pass _ second.0 in
-      inl (steps_hold setup trace _ first.0, inl (cores_hold given reported _ first.1, inl (order_holds given reported _ second.1,
-      inr (i, (ltb-true i _ within, fails, transfers_hold given reported i parts.1), refl))))
+      inl (
+        steps_hold setup trace _ first.0,
+        inl (
+          cores_hold given reported _ first.1,
+          inl (
+            order_holds given reported _ second.1,
+            inr (i, (ltb-true i _ within, fails, transfers_hold given reported i parts.1), refl),
+          ),
+        ),
+      )
 
   -- at a flip
   pub fails_at_flip : (i : ℕ) → nat_lt i (length trace.fates) ≡ true → transfers_pass && fates_to given reported i ≡ true → (SameFlip given reported i → ⊥)
@@ -121,8 +134,16 @@ module _ (setup : Setup) (trace : Trace) where
       let third = and_parts order_passes _ parts.0 in
       let second = and_parts cores_pass _ third.0 in
       let first = and_parts steps_pass _ second.0 in
-      inl (steps_hold setup trace _ first.0, inl (cores_hold given reported _ first.1, inl (order_holds given reported _ second.1,
-      inl (transfers_hold given reported _ third.1, inr (i, (ltb-true i _ within, fails, fates_hold given reported i parts.1), refl)))))
+      inl (
+        steps_hold setup trace _ first.0,
+        inl (
+          cores_hold given reported _ first.1,
+          inl (
+            order_holds given reported _ second.1,
+            inl (transfers_hold given reported _ third.1, inr (i, (ltb-true i _ within, fails, fates_hold given reported i parts.1), refl)),
+          ),
+        ),
+      )
 
   -- at the end
   pub fails_at_end : fates_pass ≡ true → (SameFinal given reported 0 → ⊥) → LedgerFailsFirst setup trace (Some Final)
@@ -131,6 +152,19 @@ module _ (setup : Setup) (trace : Trace) where
       let third = and_parts order_passes _ fourth.0 in
       let second = and_parts cores_pass _ third.0 in
       let first = and_parts steps_pass _ second.0 in
-      inl (steps_hold setup trace _ first.0, inl (cores_hold given reported _ first.1, inl (order_holds given reported _ second.1,
-      inl (transfers_hold given reported _ third.1, inl (fates_hold given reported _ fourth.1,
-      inr (0, (ltb-true 0 1 refl, fails, λ j below. absurd (omega (arith, below))), refl))))))
+      inl (
+        steps_hold setup trace _ first.0,
+        inl (
+          cores_hold given reported _ first.1,
+          inl (
+            order_holds given reported _ second.1,
+            inl (
+              transfers_hold given reported _ third.1,
+              inl (
+                fates_hold given reported _ fourth.1,
+                inr (0, (ltb-true 0 1 refl, fails, λ j below. absurd (omega (arith, below))), refl),
+              ),
+            ),
+          ),
+        ),
+      )

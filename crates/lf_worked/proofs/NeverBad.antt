@@ -1,5 +1,5 @@
 -- Runs in which no word and no register cell ever has two turned bits, and runs in which one has.
-use Rattle.std.specs.Prelude.{◌≡◌, refl, true}
+use Rattle.std.specs.Prelude.{refl, true}
 use Rattle.std.proofs.lemmas.Bool.{true≢false}
 use Rattle.lf_model.specs.Promise.NeverStops.{NeverTwoTurned, NeverStops}
 use Rattle.lf_model.proofs.NeverStops.{headline_never_stops}

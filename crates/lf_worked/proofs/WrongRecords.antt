@@ -19,7 +19,7 @@ use Rattle.lf_model.specs.declared.trace.Word2.{Word2}
 use Rattle.lf_worked.specs.Edits.{at}
 use Rattle.lf_worked.specs.Machine.{machine}
 use Rattle.lf_worked.specs.Rows.{transfer, word}
-use Rattle.lf_worked.proofs.Items.{differ, first_number}
+use Rattle.lf_worked.proofs.Items.{differ}
 use Rattle.lf_worked.proofs.Numerals.{lt}
 use Rattle.lf_worked.proofs.RecordTest.{kept_of, log_of, on_bus, named_by_all}
 use Rattle.lf_worked.specs.BadWordsWatched.{bad_words_watched_setup, bad_words_watched_trace}
