@@ -4,7 +4,7 @@ use Rattle.std.proofs.Common.{◌≡◌, ◌+◌, ◌&&◌, ℕ, Bool, true, fal
 use Rattle.std.proofs.lemmas.Bool.{leb-true, ne_eqb, and_parts}
 use Rattle.lf_model.specs.Bus.Words.{Word, answered}
 use Rattle.lf_model.specs.Course.Syndromes.{has_address, enters_log}
-use Rattle.lf_model.specs.Records.BusMemory.{shown}
+use Rattle.lf_model.specs.Records.BusMemory.{with_answer}
 use Rattle.lf_model.specs.Records.BusRecord.{is_successful, is_in_memory}
 use Rattle.lf_model.specs.Start.{ram_first}
 use Rattle.lf_model.specs.declared.bus.Transfer.{Transfer}
@@ -24,19 +24,19 @@ module _ (ram : ℕ) where
   has : (t : Transfer) → nat_le ram_first t.addr && nat_le (t.addr + 1) (ram_first + ram) ≡ true → has_address t ≡ true
   has t is = ap not (ne_eqb t.addr 0 (λ none. omega (arith, none, leb-true ram_first t.addr (and_parts _ _ is).0)))
 
-  shown_of : (kind : TurnKind) (words : List Word) (t : Transfer) → is_in_memory ram (record t { kind = kind }) ≡ true
-      → shown words (record t { kind = kind }) ≡ answered words (record t { kind = kind })
-  shown_of Snoop words t is = rw (none_either (has_address t)) refl
-  shown_of Fetch words t is = rw (has t is) refl
-  shown_of Load words t is = rw (has t is) refl
-  shown_of Store words t is = rw (has t is) refl
-  shown_of Atomic words t is = rw (has t is) refl
-  shown_of Look words t is = rw (has t is) refl
-  shown_of Fix words t is = rw (has t is) refl
+  answer_of : (kind : TurnKind) (words : List Word) (t : Transfer) → is_in_memory ram (record t { kind = kind }) ≡ true
+      → with_answer words (record t { kind = kind }) ≡ answered words (record t { kind = kind })
+  answer_of Snoop words t is = rw (none_either (has_address t)) refl
+  answer_of Fetch words t is = rw (has t is) refl
+  answer_of Load words t is = rw (has t is) refl
+  answer_of Store words t is = rw (has t is) refl
+  answer_of Atomic words t is = rw (has t is) refl
+  answer_of Look words t is = rw (has t is) refl
+  answer_of Fix words t is = rw (has t is) refl
 
   -- memory answers it the same
-  pub shown-answered : (words : List Word) (t : Transfer) → is_in_memory ram t ≡ true → shown words t ≡ answered words t
-  shown-answered words t is = shown_of t.kind words t is
+  pub answer-answered : (words : List Word) (t : Transfer) → is_in_memory ram t ≡ true → with_answer words t ≡ answered words t
+  answer-answered words t is = answer_of t.kind words t is
 
   entered_of : (kind : TurnKind) (t : Transfer) → is_in_memory ram (record t { kind = kind }) ≡ true
       → is_successful (record t { kind = kind }) ≡ enters_log (record t { kind = kind })

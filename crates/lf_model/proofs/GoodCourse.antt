@@ -8,7 +8,7 @@ use Rattle.lf_model.specs.Course.Arrays.{Arrays, begun, write_cells}
 use Rattle.lf_model.specs.Course.Attempt.{comes_to, attempt}
 use Rattle.lf_model.specs.Course.Core.{Ground}
 use Rattle.lf_model.specs.Course.Course.{up_to, observe, course, finished, others_turn}
-use Rattle.lf_model.specs.Course.LocalStep.{update_by, flush_by, retired_arrays, named_cell, register_errors, is_last_stop, local_step, local_steps}
+use Rattle.lf_model.specs.Course.LocalStep.{store_by, flush_by, retired_arrays, named_cell, register_errors, is_last_stop, local_step, local_steps}
 use Rattle.lf_model.specs.Course.Outcome.{Outcome, Need, drains, trap_needs, outcome_needs, step_needs}
 use Rattle.lf_model.specs.Course.Outcome.Need.{NoTurn, Turn, RegisterStop}
 use Rattle.lf_model.specs.Course.Outcome.Outcome.{NotTried, NoText, FetchMiss, BadRegister, OrdinaryTrap, LoadMiss, LoadHit, Store, Atomic, Barrier, Other}
@@ -37,7 +37,7 @@ cells_flushed : (barrier : Option Why) (a : Arrays) → Good (flush_by barrier a
 cells_flushed None a good = good
 cells_flushed (Some why) a good = good_if (same_why why Flush) (flush_by (Some Flush) a) a (λ good. good) good
 
-cells_updated : (access : Option Access) (a : Arrays) → Good (update_by access a).cells → Good a.cells
+cells_updated : (access : Option Access) (a : Arrays) → Good (store_by access a).cells → Good a.cells
 cells_updated None a good = good
 cells_updated (Some x) a good = good_if (is_store_kind x.kind) (record a { data_cache = updated x.addr x.len a.data_cache }) a (λ good. good) good
 
@@ -46,7 +46,7 @@ good_written cs a good = good_befalls_each written (adds (Written Whole)) cs a.c
 
 good_retired : (e : Effect) (a : Arrays) → Good (retired_arrays e a).cells → Good a.cells
 good_retired e a good =
-    cells_updated e.access a (cells_flushed e.barrier (update_by e.access a) (good_written e.writes (flush_by e.barrier (update_by e.access a)) good))
+    cells_updated e.access a (cells_flushed e.barrier (store_by e.access a) (good_written e.writes (flush_by e.barrier (store_by e.access a)) good))
 
 good_named : (outcome : Outcome) (a : Arrays) → Good (named_cell outcome a).cells → Good a.cells
 good_named (BadRegister cell) a good = good_befalls (λ h. Named ∷ h) (adds Named) cell a.cells good

@@ -21,7 +21,7 @@ use Rattle.lf_model.specs.Course.Turn.{addressed}
 use Rattle.lf_model.specs.Course.Turned.{bad_wanted}
 use Rattle.lf_model.specs.Ledger.Account.{TurnAccount, without_length, turn_made, need_reported, turn_reported, core_account}
 use Rattle.lf_model.specs.Ledger.CoreAccount.{core_by_course}
-use Rattle.lf_model.specs.Records.BusMemory.{Memory, is_named, with_names, memory_start, memory_turn, memory_after}
+use Rattle.lf_model.specs.Records.BusMemory.{Memory, names_word, with_names, memory_start, memory_turn, memory_after}
 use Rattle.lf_model.specs.Records.OwnTurns.{IsRightTurn, next_effect}
 use Rattle.lf_model.specs.declared.bus.Transfer.{Transfer}
 use Rattle.lf_model.specs.declared.setup.Setup.{Setup}
@@ -48,7 +48,7 @@ module _ (setup : Setup) (grounds : List Ground) (named : List Word2) where
 
   -- the transfer after these names this word, or none
   pub IsNamed : List Transfer → Option ℕ → Type 0
-  IsNamed pre name = (addr : ℕ) → is_named named (length pre) addr ≡ is_name name addr
+  IsNamed pre name = (addr : ℕ) → names_word named (length pre) addr ≡ is_name name addr
 
   -- a transfer after these is right, as its master's record says: of the scrubber the next of its walk, which has turns left, at
   -- which no error trap names a word, and of a core its next turn

@@ -15,7 +15,7 @@ use Rattle.lf_model.specs.Promise.Headline.{Headline, HasStopCause, HasBlanks, S
 use Rattle.lf_model.specs.Promise.Played.{IsPlayedBy}
 use Rattle.lf_model.specs.Promise.Regular.{IsRegular, is_regular_core, is_regular_op, is_regular_word, steps_fit, turn_of}
 use Rattle.lf_model.specs.Promise.RegularTransfer.{fits_word, is_regular_transfer}
-use Rattle.lf_model.specs.Promise.Turns.{TurnMade, turn_reported}
+use Rattle.lf_model.specs.Promise.Turns.{TurnMade, turn_of_transfer}
 use Rattle.lf_model.specs.declared.setup.Event.{Event}
 use Rattle.lf_model.specs.declared.setup.Setup.{Setup}
 use Rattle.lf_model.specs.declared.trace.CoreResult.{CoreResult}
@@ -128,7 +128,7 @@ is_same_turn a b passes = let parts = and_parts (a.master == b.master) _ passes 
     λ i. record { master = eqb-true a.master b.master parts.0 i; scheduled = is_same_bool a.scheduled b.scheduled parts.1 i }
 
 abbrev pub does_follow : Setup → List Event → Trace → Bool
-does_follow setup events trace = same_list same_turn (turns_of setup events trace) (map turn_reported trace.transfers)
+does_follow setup events trace = same_list same_turn (turns_of setup events trace) (map turn_of_transfer trace.transfers)
 
 pub follows : (setup : Setup) (events : List Event) (trace : Trace) → does_follow setup events trace ≡ true → Follows setup events trace
 follows setup events trace passes = record { turns = is_same_list same_turn is_same_turn (turns_of setup events trace) _ passes }

@@ -6,7 +6,7 @@ use Rattle.lf_model.specs.Course.Core.{is_store}
 use Rattle.lf_model.specs.Execution.{program_order}
 use Rattle.lf_model.specs.Ledger.Account.{map_numbered}
 use Rattle.lf_model.specs.Ledger.Steps.{own_transfers}
-use Rattle.lf_model.specs.Promise.Turns.{CoreLeft, Actors, TurnMade, turn_reported, event_made}
+use Rattle.lf_model.specs.Promise.Turns.{CoreLeft, Actors, TurnMade, turn_of_transfer, event_made}
 use Rattle.lf_model.specs.declared.setup.Actor.TheVariants.{Core, Scrub}
 use Rattle.lf_model.specs.declared.setup.Event.{Event}
 use Rattle.lf_model.specs.declared.setup.Setup.{Setup}
@@ -60,4 +60,4 @@ unfoldable pub turns_of : Setup → List Event → Trace → List TurnMade
 turns_of setup events trace = (rounds (rounds_enough trace) (fold scheduled (actors_at_start setup trace) events)).turns
 
 pub record Follows (setup : Setup) (events : List Event) (trace : Trace) : Type 0 where
-  pub turns : turns_of setup events trace ≡ map turn_reported trace.transfers
+  pub turns : turns_of setup events trace ≡ map turn_of_transfer trace.transfers

@@ -24,8 +24,8 @@ memory_start script = record { words = words_struck script; turns = 0; answers =
 abbrev pub words_asked : Transfer → List ℕ
 words_asked t = words_by_kind t.addr t.len t.kind
 
-abbrev pub shown : List Word → Transfer → Transfer
-shown words t = record t {
+abbrev pub with_answer : List Word → Transfer → Transfer
+with_answer words t = record t {
   words = length (words_asked t);
   syn = packed (map (λ addr. syndrome (word_history words addr)) (words_asked t));
 }
@@ -37,11 +37,11 @@ is_turn turn None = false
 is_turn turn (Some n) = n == turn
 
 -- an error trap names the word at this address at this turn
-abbrev pub is_named : List Word2 → ℕ → ℕ → Bool
-is_named named turn addr = list_any (λ (w : Word2). w.addr == addr && is_turn turn w.value) named
+abbrev pub names_word : List Word2 → ℕ → ℕ → Bool
+names_word named turn addr = list_any (λ (w : Word2). w.addr == addr && is_turn turn w.value) named
 
 abbrev pub with_names : List Word2 → ℕ → Word → Word
-with_names named turn word = if is_named named turn word.addr then record word { history = Named ∷ word.history } else word
+with_names named turn word = if names_word named turn word.addr then record word { history = Named ∷ word.history } else word
 
 -- ---- memory over the transfers
 
@@ -49,7 +49,7 @@ abbrev pub memory_by : List Word2 → Memory → List Word → Transfer → Memo
 memory_by named m words t = record {
   words = map (with_names named m.turns) (words_after t None words);
   turns = m.turns + 1;
-  answers = m.answers ++ shown words t ∷ [];
+  answers = m.answers ++ with_answer words t ∷ [];
 }
 
 abbrev pub memory_turn : List Flip → List Word2 → Memory → Transfer → Memory

@@ -24,13 +24,13 @@ abbrev pub next_effect : Ground → Progress → Effect
 next_effect g k = effect_at_pc g.setup g.core k.run.state
 
 -- a transfer with the number of words that memory reads for it
-abbrev pub with_words : Transfer → Transfer
-with_words t = record t { words = length (words_read t) }
+abbrev pub with_word_count : Transfer → Transfer
+with_word_count t = record t { words = length (words_read t) }
 
 -- a transfer of a core that has come so far
 pub record IsRightTurn (g : Ground) (t : Transfer) (k : Progress) : Type 0 where
   pub needed : turn_needs g t.why (turn_attempt g t.why (next_effect g k) k) k ≡ Turn t.kind t.why
-  pub placed : record (with_words (addressed g (next_effect g k) k t)) { syn = t.syn } ≡ t
+  pub placed : record (with_word_count (addressed g (next_effect g k) k t)) { syn = t.syn } ≡ t
 
 -- the transfer at this turn, if it is the core's
 abbrev pub OwnTurnAt : Ground → List Transfer → ℕ → Type 0
