@@ -13,3 +13,9 @@ pub mod ResidenceLaw
 pub mod TagLemmas
 pub mod FillLemmas
 pub mod Resident
+pub mod BusLemmas
+pub mod SyndromeLaw
+pub mod GoodCells
+pub mod GoodCourse
+pub mod GoodWords
+pub mod NeverStops

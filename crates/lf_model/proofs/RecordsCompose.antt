@@ -1,7 +1,7 @@
 -- The records of cores and bus together: where each transfer is right as its master's record and the bus's say, the run of all
 -- masters makes just these transfers, with these words in memory and this walk of the scrubber.
-use Rattle.std.proofs.Common.{◌≡◌, ◌∙◌, ◌+◌, ◌==◌, ◌++◌, ℕ, Bool, true, false, List, [], ◌∷◌, Option, Some, None, length, fold, map, refl, ap, sym, subst, arith, if◌then◌else◌}
-use Rattle.std.proofs.lemmas.Bool.{eq-eqb}
+use Rattle.std.proofs.Common.{◌≡◌, ◌∙◌, ◌+◌, ◌==◌, ◌++◌, ℕ, Bool, true, false, List, [], ◌∷◌, Option, Some, None, ◌<◌, nat_lt, length, fold, map, refl, ap, sym, subst, arith}
+use Rattle.std.proofs.lemmas.Bool.{eq-eqb, lt-ltb}
 use Rattle.std.proofs.lemmas.List.{append_assoc, append-nil, length-append, map-append}
 use Rattle.std.proofs.lemmas.List.Sums.{fold-append}
 use Rattle.std.proofs.lemmas.Option.{slice_get-map}
@@ -9,19 +9,19 @@ use Rattle.std.proofs.lemmas.Simd.{map-map}
 use Rattle.std.specs.List.{slice_get}
 use Rattle.std.specs.Option.{option_map}
 use Rattle.lf_model.proofs.ReplayLemmas.{made_in, made_from, core_over, core_after_all, cores_after}
-use Rattle.lf_model.specs.Bus.Replay.{Core, Made, Replay, core_start, name_of, replay_start, made_by_core, made_by_scrubber, made_turn, replay_turn, core_finished, replay_finished}
-use Rattle.lf_model.specs.Bus.Walk.{scrubber, next_transfer, walk_start, walk_by, walk_after}
-use Rattle.lf_model.specs.Bus.Words.{Word, words_begun, answered, words_after}
+use Rattle.lf_model.specs.Bus.Replay.{Core, Made, Replay, core_start, name_of, replay_start, made_by_core, made_by_walk, made_turn, replay_turn, core_finished, replay_finished}
+use Rattle.lf_model.specs.Bus.Walk.{Walk, scrubber, next_transfer, walk_start, walk_by, walk_after}
+use Rattle.lf_model.specs.Bus.Words.{Word, words_begun, answered, with_name, write_by, with_write, words_after}
 use Rattle.lf_model.specs.Course.Core.{Ground}
 use Rattle.lf_model.specs.Course.Course.{up_to, course, finished}
 use Rattle.lf_model.specs.Course.Outcome.{Need}
-use Rattle.lf_model.specs.Course.Outcome.Need.{NoTurn, Turn}
+use Rattle.lf_model.specs.Course.Outcome.Need.{Turn}
 use Rattle.lf_model.specs.Course.Progress.{Progress}
 use Rattle.lf_model.specs.Course.Turn.{addressed}
 use Rattle.lf_model.specs.Course.Turned.{bad_wanted}
 use Rattle.lf_model.specs.Ledger.Account.{TurnAccount, without_length, turn_made, need_reported, turn_reported, core_account}
 use Rattle.lf_model.specs.Ledger.CoreAccount.{core_by_course}
-use Rattle.lf_model.specs.Records.BusMemory.{Memory, name_at, memory_start, memory_turn, memory_after}
+use Rattle.lf_model.specs.Records.BusMemory.{Memory, names_word, with_names, memory_start, memory_turn, memory_after}
 use Rattle.lf_model.specs.Records.OwnTurns.{IsRightTurn, next_effect}
 use Rattle.lf_model.specs.declared.bus.Transfer.{Transfer}
 use Rattle.lf_model.specs.declared.setup.Setup.{Setup}
@@ -33,6 +33,11 @@ two f p q = rw (p, q) refl
 three : {A B C D : Type 0} (f : A → B → C → D) {a a' : A} {b b' : B} {c c' : C} → a ≡ a' → b ≡ b' → c ≡ c' → f a b c ≡ f a' b' c'
 three f p q r = rw (p, q, r) refl
 
+-- the word at this address is the one named, if one is
+abbrev pub is_name : Option ℕ → ℕ → Bool
+is_name None addr = false
+is_name (Some a) addr = addr == a
+
 module _ (setup : Setup) (grounds : List Ground) (named : List Word2) where
   -- all masters, memory and the walk after these transfers
   abbrev pub after : List Transfer → Replay
@@ -41,18 +46,18 @@ module _ (setup : Setup) (grounds : List Ground) (named : List Word2) where
   abbrev pub words_at : List Transfer → List Word
   words_at ts = words_begun setup.flips (length ts) (memory_after setup.flips named ts).words
 
-  -- the word that an error trap names at the transfer after these
-  abbrev pub name_after : List Transfer → Option ℕ
-  name_after pre = name_at named (length pre)
+  -- the transfer after these names this word, or none
+  pub IsNamed : List Transfer → Option ℕ → Type 0
+  IsNamed pre name = (addr : ℕ) → names_word named (length pre) addr ≡ is_name name addr
 
-  -- a transfer after these is right, as its master's record says: of the scrubber the next of its walk, at which no error trap
-  -- names a word, and of a core its next turn
+  -- a transfer after these is right, as its master's record says: of the scrubber the next of its walk, which has turns left, at
+  -- which no error trap names a word, and of a core its next turn
   pub data IsRight (pre : List Transfer) (t : Transfer) : Type 0 where
-    ByScrubber : t.master ≡ scrubber → None ≡ name_after pre
+    ByScrubber : t.master ≡ scrubber → IsNamed pre None → (walk_after setup.config.scrub pre).turns < setup.config.scrub_turns
         → record (next_transfer (length pre) (walk_after setup.config.scrub pre) (walk_after setup.config.scrub pre).noted) { words = t.words; syn = t.syn } ≡ t
         → IsRight pre t
     ByCore : (g : Ground) → (t.master == scrubber) ≡ false → slice_get grounds t.master ≡ Some g → IsRightTurn g t (up_to g t (course g pre))
-        → name_of g t (bad_wanted (up_to g t (course g pre)).run.state.ctl.pc (next_effect g (up_to g t (course g pre))) t) ≡ name_after pre
+        → IsNamed pre (name_of g t (bad_wanted (up_to g t (course g pre)).run.state.ctl.pc (next_effect g (up_to g t (course g pre))) t))
         → IsRight pre t
 
   -- memory answers it so, at its turn
@@ -77,12 +82,17 @@ module _ (setup : Setup) (grounds : List Ground) (named : List Word2) where
   core_along : (pre : List Transfer) → Along pre → (n : ℕ) (g : Ground) → slice_get grounds n ≡ Some g → slice_get (after pre).cores n ≡ Some (core_after_all setup pre g)
   core_along pre h n g found = ap (λ cores. slice_get cores n) (along_cores pre h) ∙ (slice_get-map (core_after_all setup pre) grounds n ∙ ap (option_map (core_after_all setup pre)) found)
 
-  by_scrubber : (r : Replay) (words : List Word) (t : Transfer) → (t.master == scrubber) ≡ true → made_turn r words t ≡ made_by_scrubber words r.turns r.walk
+  by_scrubber : (r : Replay) (words : List Word) (t : Transfer) → (t.master == scrubber) ≡ true → nat_lt r.walk.turns setup.config.scrub_turns ≡ true
+      → made_turn setup r words t ≡ made_by_walk words (next_transfer r.turns r.walk r.walk.noted)
   unfolding made_turn
-  by_scrubber r words t e = rw e refl
+  by_scrubber r words t e left = rw (e, left) refl
+
+  turns_left : (pre : List Transfer) → Along pre → (walk_after setup.config.scrub pre).turns < setup.config.scrub_turns
+      → nat_lt (after pre).walk.turns setup.config.scrub_turns ≡ true
+  turns_left pre h left = rw h.walk (lt-ltb _ _ left)
 
   by_core : (r : Replay) (words : List Word) (t : Transfer) (c : Core) → (t.master == scrubber) ≡ false → slice_get r.cores t.master ≡ Some c
-      → made_turn r words t ≡ made_by_core words (record t { turn = r.turns }) c
+      → made_turn setup r words t ≡ made_by_core words (record t { turn = r.turns }) c
   unfolding made_turn
   by_core r words t c e found = rw (e, found) refl
 
@@ -103,8 +113,8 @@ module _ (setup : Setup) (grounds : List Ground) (named : List Word2) where
 
   -- the run makes the transfer
   pub transfer_made_right : (pre : List Transfer) (t : Transfer) → Along pre → IsRight pre t → IsAnswered pre t → made_in setup (after pre) t ≡ t
-  transfer_made_right pre t h (ByScrubber master unnamed placed) ok =
-      ap (λ (m : Made). m.transfer) (by_scrubber (after pre) _ t (eq-eqb t.master scrubber master))
+  transfer_made_right pre t h (ByScrubber master unnamed left placed) ok =
+      ap (λ (m : Made). m.transfer) (by_scrubber (after pre) _ t (eq-eqb t.master scrubber master) (turns_left pre h left))
       ∙ (three (λ turns words walk. answered (words_begun setup.flips turns words) (next_transfer turns walk walk.noted)) h.turns h.words h.walk
       ∙ (ap (answered (words_at pre)) placed ∙ ok.answer))
   transfer_made_right pre t h (ByCore g other found right name) ok =
@@ -113,12 +123,12 @@ module _ (setup : Setup) (grounds : List Ground) (named : List Word2) where
 
   -- and names the word that the records name
   pub name_made_right : (pre : List Transfer) (t : Transfer) → Along pre → IsRight pre t → IsAnswered pre t
-      → (made_turn (after pre) (words_begun setup.flips (after pre).turns (after pre).words) t).named ≡ name_after pre
-  name_made_right pre t h (ByScrubber master unnamed placed) ok =
-      ap (λ (m : Made). m.named) (by_scrubber (after pre) _ t (eq-eqb t.master scrubber master)) ∙ unnamed
-  name_made_right pre t h (ByCore g other found right name) ok =
+      → IsNamed pre (made_turn setup (after pre) (words_begun setup.flips (after pre).turns (after pre).words) t).named
+  name_made_right pre t h (ByScrubber master unnamed left placed) ok =
+      subst (IsNamed pre) (sym (ap (λ (m : Made). m.named) (by_scrubber (after pre) _ t (eq-eqb t.master scrubber master) (turns_left pre h left)))) unnamed
+  name_made_right pre t h (ByCore g other found right name) ok = subst (IsNamed pre) (sym (
       ap (λ (m : Made). m.named) (by_core (after pre) _ t (core_after_all setup pre g) other (core_along pre h t.master g found))
-      ∙ (ap (λ u. name_of g u (bad_wanted (at_turn g pre t).run.state.ctl.pc (next_effect g (at_turn g pre t)) u)) (core_transfer g pre t h right ok) ∙ name)
+      ∙ ap (λ u. name_of g u (bad_wanted (at_turn g pre t).run.state.ctl.pc (next_effect g (at_turn g pre t)) u)) (core_transfer g pre t h right ok))) name
 
   -- ---- one transfer more
 
@@ -138,7 +148,7 @@ module _ (setup : Setup) (grounds : List Ground) (named : List Word2) where
   turn_turns r t = refl
 
   turn_words : (r : Replay) (t : Transfer) → (replay_turn setup r t).words
-      ≡ words_after (made_in setup r t) (made_turn r (words_begun setup.flips r.turns r.words) t).named (words_begun setup.flips r.turns r.words)
+      ≡ words_after (made_in setup r t) (made_turn setup r (words_begun setup.flips r.turns r.words) t).named (words_begun setup.flips r.turns r.words)
   unfolding replay_turn
   turn_words r t = refl
 
@@ -149,10 +159,24 @@ module _ (setup : Setup) (grounds : List Ground) (named : List Word2) where
   turns_after : (pre : List Transfer) → (memory_after setup.flips named pre).turns ≡ length pre
   turns_after pre = omega (arith, memory_turns (memory_start setup.flips) pre)
 
-  memory_one : (pre : List Transfer) (t : Transfer) → (memory_after setup.flips named (pre ++ t ∷ [])).words ≡ words_after t (name_after pre) (words_at pre)
+  memory_one : (pre : List Transfer) (t : Transfer) → (memory_after setup.flips named (pre ++ t ∷ [])).words ≡ map (with_names named (length pre)) (words_after t None (words_at pre))
   memory_one pre t =
       ap (λ (m : Memory). m.words) (fold-append (memory_turn setup.flips named) (memory_start setup.flips) pre (t ∷ []))
-      ∙ ap (λ turns. words_after t (name_at named turns) (words_begun setup.flips turns (memory_after setup.flips named pre).words)) (turns_after pre)
+      ∙ ap (λ turns. map (with_names named turns) (words_after t None (words_begun setup.flips turns (memory_after setup.flips named pre).words))) (turns_after pre)
+
+  name_given : (pre : List Transfer) (name : Option ℕ) → IsNamed pre name → (word : Word) → with_names named (length pre) word ≡ with_name name word
+  unfolding IsNamed
+  name_given pre None is word = rw (is word.addr) refl
+  name_given pre (Some a) is word = rw (is word.addr) refl
+
+  abbrev written_by : Transfer → Word → Word
+  written_by t word = record word { history = with_write (write_by t word) word.history }
+
+  -- the words that the records name are those that the run names
+  names_given : (pre : List Transfer) (name : Option ℕ) → IsNamed pre name → (t : Transfer) (words : List Word)
+      → words_after t name words ≡ map (with_names named (length pre)) (words_after t None words)
+  names_given pre name is t [] = refl
+  names_given pre name is t (word ∷ words) = two (λ w ws. w ∷ ws) (sym (name_given pre name is (written_by t word))) (names_given pre name is t words)
 
   pub along_more : (pre : List Transfer) (t : Transfer) → Along pre → IsRight pre t → IsAnswered pre t → Along (pre ++ t ∷ [])
   along_more pre t h right ok = record {
@@ -160,8 +184,9 @@ module _ (setup : Setup) (grounds : List Ground) (named : List Word2) where
     turns = ap (λ (r : Replay). r.turns) (after_one pre t) ∙ (turn_turns (after pre) t ∙ (ap (λ n. n + 1) h.turns ∙ sym (length-append pre (t ∷ []))));
     words = ap (λ (r : Replay). r.words) (after_one pre t)
         ∙ (turn_words (after pre) t
-        ∙ (three words_after (transfer_made_right pre t h right ok) (name_made_right pre t h right ok) (two (words_begun setup.flips) h.turns h.words)
-        ∙ sym (memory_one pre t)));
+        ∙ (names_given pre _ (name_made_right pre t h right ok) (made_in setup (after pre) t) _
+        ∙ (two (λ u words. map (with_names named (length pre)) (words_after u None words)) (transfer_made_right pre t h right ok) (two (words_begun setup.flips) h.turns h.words)
+        ∙ sym (memory_one pre t))));
     walk = ap (λ (r : Replay). r.walk) (after_one pre t)
         ∙ (turn_walk (after pre) t
         ∙ (two (walk_by setup.config.scrub) h.walk (transfer_made_right pre t h right ok)
@@ -183,18 +208,21 @@ module _ (setup : Setup) (grounds : List Ground) (named : List Word2) where
 
   -- ---- what the accounts of the run are
 
-  -- what the step of each transfer needs is what it reports
+  abbrev needed_by : Transfer → Need
+  needed_by t = Turn t.kind t.why
+
+  -- what the step of each transfer, or the walk, needs is what it reports
   pub need_made_right : (pre : List Transfer) (t : Transfer) → Along pre → IsRight pre t
-      → (made_turn (after pre) (words_begun setup.flips (after pre).turns (after pre).words) t).need ≡ need_reported t
-  need_made_right pre t h (ByScrubber master unnamed placed) =
-      ap (λ (m : Made). m.need) (by_scrubber (after pre) _ t (eq-eqb t.master scrubber master))
-      ∙ ap (λ (b : Bool). if b then NoTurn else Turn t.kind t.why) (sym (eq-eqb t.master scrubber master))
+      → (made_turn setup (after pre) (words_begun setup.flips (after pre).turns (after pre).words) t).need ≡ need_reported t
+  need_made_right pre t h (ByScrubber master unnamed left placed) =
+      ap (λ (m : Made). m.need) (by_scrubber (after pre) _ t (eq-eqb t.master scrubber master) (turns_left pre h left))
+      ∙ (two (λ turns (walk : Walk). needed_by (next_transfer turns walk walk.noted)) h.turns h.walk ∙ ap needed_by placed)
   need_made_right pre t h (ByCore g other found right name) =
       ap (λ (m : Made). m.need) (by_core (after pre) _ t (core_after_all setup pre g) other (core_along pre h t.master g found))
-      ∙ (right.needed ∙ ap (λ (b : Bool). if b then NoTurn else Turn t.kind t.why) (sym other))
+      ∙ right.needed
 
   turn_made_list : (r : Replay) (t : Transfer) → map turn_made (replay_turn setup r t).made
-      ≡ map turn_made r.made ++ turn_made (made_turn r (words_begun setup.flips r.turns r.words) t) ∷ []
+      ≡ map turn_made r.made ++ turn_made (made_turn setup r (words_begun setup.flips r.turns r.words) t) ∷ []
   unfolding replay_turn
   turn_made_list r t = map-append turn_made r.made _
 

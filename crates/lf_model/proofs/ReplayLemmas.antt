@@ -14,7 +14,7 @@ use Rattle.lf_model.specs.declared.setup.Setup.{Setup}
 module _ (setup : Setup) where
   -- the transfer that is made where this one is reported
   abbrev pub made_in : Replay → Transfer → Transfer
-  made_in r t = (made_turn r (words_begun setup.flips r.turns r.words) t).transfer
+  made_in r t = (made_turn setup r (words_begun setup.flips r.turns r.words) t).transfer
 
   -- those that are made where these are reported
   abbrev pub made_from : Replay → List Transfer → List Transfer

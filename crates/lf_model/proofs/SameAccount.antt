@@ -25,13 +25,13 @@ both false q h = absurd cc
 numbers : (a b : ℕ) → same_number a b ≡ true → a ≡ b
 numbers a b h = eqb-true a b h
 
-bools : (a b : Bool) → same_bool a b ≡ true → a ≡ b
+pub bools : (a b : Bool) → same_bool a b ≡ true → a ≡ b
 bools true true h = refl
 bools true false h = absurd cc
 bools false true h = absurd cc
 bools false false h = refl
 
-options : {X : Type 0} (same : X → X → Bool) → ((a b : X) → same a b ≡ true → a ≡ b) → (a b : Option X) → same_option same a b ≡ true → a ≡ b
+pub options : {X : Type 0} (same : X → X → Bool) → ((a b : X) → same a b ≡ true → a ≡ b) → (a b : Option X) → same_option same a b ≡ true → a ≡ b
 options same test None None h = refl
 options same test None (Some y) h = absurd cc
 options same test (Some x) None h = absurd cc
@@ -47,7 +47,7 @@ lists same test (x ∷ xs) (y ∷ ys) h = let p = both (same x y) (same_list sam
 on : {A B : Type 0} {f g : A → B} {a b : A} → f ≡ g → a ≡ b → f a ≡ g b
 on e h = rw (e, h) refl
 
-abbrev make_errors : ℕ → ℕ → ℕ → ℕ → ℕ → ErrorTrap
+abbrev make_errors : ℕ → ℕ → ℕ → ℕ → Option ℕ → ErrorTrap
 make_errors x0 x1 x2 x3 x4 = record { trap_type = x0; place = x1; syndrome = x2; steps = x3; turns = x4 }
 
 errors : (a b : ErrorTrap) → same_error a b ≡ true → a ≡ b
@@ -60,7 +60,7 @@ errors a b h =
     let e2 = numbers a.syndrome b.syndrome p2.0 in
     let p3 = both _ _ p2.1 in
     let e3 = numbers a.steps b.steps p3.0 in
-    let e4 = numbers a.turns b.turns p3.1 in
+    let e4 = options same_number numbers a.turns b.turns p3.1 in
     on (on (on (on (ap (make_errors) e0) e1) e2) e3) e4
 
 abbrev make_parities : ℕ → ℕ → ℕ → ℕ → Four
@@ -80,7 +80,7 @@ parities a b h =
 abbrev make_cores : ℕ → List ErrorTrap → List ℕ → Four → List Bool → CoreAccount
 make_cores x0 x1 x2 x3 x4 = record { owed = x0; errors = x1; lost = x2; parity = x3; blank = x4 }
 
-cores : (a b : CoreAccount) → same_core a b ≡ true → a ≡ b
+pub cores : (a b : CoreAccount) → same_core a b ≡ true → a ≡ b
 cores a b h =
     let p0 = both _ _ h in
     let e0 = numbers a.owed b.owed p0.0 in
@@ -118,7 +118,7 @@ completions a b h =
 abbrev make_places : Option LogEntry → Option Completion → Bool → OrderAccount
 make_places x0 x1 x2 = record { entry = x0; retired = x1; sorted = x2 }
 
-places : (a b : OrderAccount) → same_place a b ≡ true → a ≡ b
+pub places : (a b : OrderAccount) → same_place a b ≡ true → a ≡ b
 places a b h =
     let p0 = both _ _ h in
     let e0 = options same_entry entries a.entry b.entry p0.0 in
@@ -167,7 +167,7 @@ needs (RegisterStop cell) (RegisterStop cell') h = ap RegisterStop (numbers cell
 abbrev make_turns : Transfer → Need → TurnAccount
 make_turns x0 x1 = record { transfer = x0; need = x1 }
 
-turns : (a b : TurnAccount) → same_turn a b ≡ true → a ≡ b
+pub turns : (a b : TurnAccount) → same_turn a b ≡ true → a ≡ b
 turns a b h =
     let p0 = both _ _ h in
     let e0 = transfers a.transfer b.transfer p0.0 in

@@ -5,7 +5,7 @@ use Rattle.std.proofs.lemmas.List.Sums.{fold-append}
 use Rattle.lf_model.specs.Caches.Slot.{history_at, befalls}
 use Rattle.lf_model.specs.Course.Arrays.{Arrays, read_back, read_then, read_cells, write_cells}
 use Rattle.lf_model.specs.Course.Core.{is_store_kind}
-use Rattle.lf_model.specs.Course.LocalStep.{update_by, flush_by, retired_arrays}
+use Rattle.lf_model.specs.Course.LocalStep.{store_by, flush_by, retired_arrays}
 use Rattle.lf_model.specs.Course.Touches.{touched, unless_bad, read_touches, access_touches, barrier_touches, write_touches, retire_touches}
 use Rattle.lf_model.specs.Effect.{Access, Effect}
 use Rattle.lf_model.specs.Flips.{is_bad_word}
@@ -42,7 +42,7 @@ module _ (flips : List (ℕ × Flip)) where
     | inr not_so ↦ rw not_so refl
   ]
 
-  update : (x : Option Access) (a : Arrays) → fold (touched flips) a (access_touches x) ≡ update_by x a
+  update : (x : Option Access) (a : Arrays) → fold (touched flips) a (access_touches x) ≡ store_by x a
   update None a = refl
   update (Some x) a = elim (cases_Bool (is_store_kind x.kind)) [
     | inl is_so ↦ rw is_so refl
@@ -53,6 +53,6 @@ module _ (flips : List (ℕ × Flip)) where
   retire e a =
       fold-append (touched flips) a (access_touches e.access) (barrier_touches e.barrier ++ write_touches e.writes)
       ∙ (ap (λ b. fold (touched flips) b (barrier_touches e.barrier ++ write_touches e.writes)) (update e.access a)
-      ∙ (fold-append (touched flips) (update_by e.access a) (barrier_touches e.barrier) (write_touches e.writes)
-      ∙ (ap (λ b. fold (touched flips) b (write_touches e.writes)) (flush e.barrier (update_by e.access a))
-      ∙ write e.writes (flush_by e.barrier (update_by e.access a)))))
+      ∙ (fold-append (touched flips) (store_by e.access a) (barrier_touches e.barrier) (write_touches e.writes)
+      ∙ (ap (λ b. fold (touched flips) b (write_touches e.writes)) (flush e.barrier (store_by e.access a))
+      ∙ write e.writes (flush_by e.barrier (store_by e.access a)))))

@@ -5,4 +5,5 @@ pub mod Regular
 pub mod Turns
 pub mod Follows
 pub mod Headline
+pub mod NeverStops
 pub mod Played

@@ -5,3 +5,4 @@ pub mod SeenOrder
 pub mod CoreRecord
 pub mod BusMemory
 pub mod BusRecord
+pub mod AllRecords

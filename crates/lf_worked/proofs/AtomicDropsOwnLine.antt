@@ -7,6 +7,7 @@ use Rattle.lf_worked.specs.AtomicDropsOwnLine.{atomic_drops_own_line_setup, atom
 use Rattle.lf_worked.proofs.PromiseTest.{played}
 use Rattle.lf_worked.proofs.RecordTest.{kept_of, log_of, on_bus, named_by_all}
 use Rattle.lf_worked.proofs.RecordsTest.{RecordAt, BusRecordOf, status_of, bus_fates, record_ok, bus_record_ok}
+use Rattle.lf_worked.proofs.AllRecordsTest.{AreRecordsOf, RecordOf, records, of_one}
 
 atomic_drops_own_line_report : report atomic_drops_own_line_trace ≡ atomic_drops_own_line_text
 unfolding machine atomic_drops_own_line_trace atomic_drops_own_line_text
@@ -24,3 +25,8 @@ atomic_drops_own_line_bus_record : BusRecordOf atomic_drops_own_line_setup atomi
 unfolding machine atomic_drops_own_line_setup atomic_drops_own_line_trace
 atomic_drops_own_line_bus_record = bus_record_ok atomic_drops_own_line_setup (log_of atomic_drops_own_line_setup atomic_drops_own_line_trace) (on_bus atomic_drops_own_line_setup atomic_drops_own_line_trace) (status_of atomic_drops_own_line_trace) (bus_fates atomic_drops_own_line_setup atomic_drops_own_line_trace) (named_by_all atomic_drops_own_line_setup atomic_drops_own_line_trace)
     refl refl refl refl refl refl
+
+atomic_drops_own_line_records : AreRecordsOf atomic_drops_own_line_setup atomic_drops_own_line_trace
+unfolding machine atomic_drops_own_line_setup atomic_drops_own_line_trace
+atomic_drops_own_line_records = records atomic_drops_own_line_setup atomic_drops_own_line_trace refl
+    (of_one (RecordOf atomic_drops_own_line_setup atomic_drops_own_line_trace) atomic_drops_own_line_record_0) atomic_drops_own_line_bus_record refl refl

@@ -7,6 +7,7 @@ use Rattle.lf_worked.specs.AtomicWritesItsRegister.{atomic_writes_its_register_s
 use Rattle.lf_worked.proofs.PromiseTest.{played}
 use Rattle.lf_worked.proofs.RecordTest.{kept_of, log_of, on_bus, named_by_all}
 use Rattle.lf_worked.proofs.RecordsTest.{RecordAt, BusRecordOf, status_of, bus_fates, record_ok, bus_record_ok}
+use Rattle.lf_worked.proofs.AllRecordsTest.{AreRecordsOf, RecordOf, records, of_one}
 
 atomic_writes_its_register_report : report atomic_writes_its_register_trace ≡ atomic_writes_its_register_text
 unfolding machine atomic_writes_its_register_trace atomic_writes_its_register_text
@@ -24,3 +25,8 @@ atomic_writes_its_register_bus_record : BusRecordOf atomic_writes_its_register_s
 unfolding machine atomic_writes_its_register_setup atomic_writes_its_register_trace
 atomic_writes_its_register_bus_record = bus_record_ok atomic_writes_its_register_setup (log_of atomic_writes_its_register_setup atomic_writes_its_register_trace) (on_bus atomic_writes_its_register_setup atomic_writes_its_register_trace) (status_of atomic_writes_its_register_trace) (bus_fates atomic_writes_its_register_setup atomic_writes_its_register_trace) (named_by_all atomic_writes_its_register_setup atomic_writes_its_register_trace)
     refl refl refl refl refl refl
+
+atomic_writes_its_register_records : AreRecordsOf atomic_writes_its_register_setup atomic_writes_its_register_trace
+unfolding machine atomic_writes_its_register_setup atomic_writes_its_register_trace
+atomic_writes_its_register_records = records atomic_writes_its_register_setup atomic_writes_its_register_trace refl
+    (of_one (RecordOf atomic_writes_its_register_setup atomic_writes_its_register_trace) atomic_writes_its_register_record_0) atomic_writes_its_register_bus_record refl refl

@@ -7,6 +7,7 @@ use Rattle.lf_worked.specs.BlankRegister.{blank_register_setup, blank_register_e
 use Rattle.lf_worked.proofs.PromiseTest.{played}
 use Rattle.lf_worked.proofs.RecordTest.{kept_of, log_of, on_bus, named_by_all}
 use Rattle.lf_worked.proofs.RecordsTest.{RecordAt, BusRecordOf, status_of, bus_fates, record_ok, bus_record_ok}
+use Rattle.lf_worked.proofs.AllRecordsTest.{AreRecordsOf, RecordOf, records, of_one}
 
 blank_register_report : report blank_register_trace ≡ blank_register_text
 unfolding machine blank_register_trace blank_register_text
@@ -24,3 +25,8 @@ blank_register_bus_record : BusRecordOf blank_register_setup blank_register_trac
 unfolding machine blank_register_setup blank_register_trace
 blank_register_bus_record = bus_record_ok blank_register_setup (log_of blank_register_setup blank_register_trace) (on_bus blank_register_setup blank_register_trace) (status_of blank_register_trace) (bus_fates blank_register_setup blank_register_trace) (named_by_all blank_register_setup blank_register_trace)
     refl refl refl refl refl refl
+
+blank_register_records : AreRecordsOf blank_register_setup blank_register_trace
+unfolding machine blank_register_setup blank_register_trace
+blank_register_records = records blank_register_setup blank_register_trace refl
+    (of_one (RecordOf blank_register_setup blank_register_trace) blank_register_record_0) blank_register_bus_record refl refl

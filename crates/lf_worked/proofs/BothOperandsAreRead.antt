@@ -7,6 +7,7 @@ use Rattle.lf_worked.specs.BothOperandsAreRead.{both_operands_are_read_setup, bo
 use Rattle.lf_worked.proofs.PromiseTest.{played}
 use Rattle.lf_worked.proofs.RecordTest.{kept_of, log_of, on_bus, named_by_all}
 use Rattle.lf_worked.proofs.RecordsTest.{RecordAt, BusRecordOf, status_of, bus_fates, record_ok, bus_record_ok}
+use Rattle.lf_worked.proofs.AllRecordsTest.{AreRecordsOf, RecordOf, records, of_one}
 
 both_operands_are_read_report : report both_operands_are_read_trace ≡ both_operands_are_read_text
 unfolding machine both_operands_are_read_trace both_operands_are_read_text
@@ -24,3 +25,8 @@ both_operands_are_read_bus_record : BusRecordOf both_operands_are_read_setup bot
 unfolding machine both_operands_are_read_setup both_operands_are_read_trace
 both_operands_are_read_bus_record = bus_record_ok both_operands_are_read_setup (log_of both_operands_are_read_setup both_operands_are_read_trace) (on_bus both_operands_are_read_setup both_operands_are_read_trace) (status_of both_operands_are_read_trace) (bus_fates both_operands_are_read_setup both_operands_are_read_trace) (named_by_all both_operands_are_read_setup both_operands_are_read_trace)
     refl refl refl refl refl refl
+
+both_operands_are_read_records : AreRecordsOf both_operands_are_read_setup both_operands_are_read_trace
+unfolding machine both_operands_are_read_setup both_operands_are_read_trace
+both_operands_are_read_records = records both_operands_are_read_setup both_operands_are_read_trace refl
+    (of_one (RecordOf both_operands_are_read_setup both_operands_are_read_trace) both_operands_are_read_record_0) both_operands_are_read_bus_record refl refl

@@ -7,6 +7,7 @@ use Rattle.lf_worked.specs.ByteOfZero.{byte_of_zero_setup, byte_of_zero_events, 
 use Rattle.lf_worked.proofs.PromiseTest.{played}
 use Rattle.lf_worked.proofs.RecordTest.{kept_of, log_of, on_bus, named_by_all}
 use Rattle.lf_worked.proofs.RecordsTest.{RecordAt, BusRecordOf, status_of, bus_fates, record_ok, bus_record_ok}
+use Rattle.lf_worked.proofs.AllRecordsTest.{AreRecordsOf, RecordOf, records, of_one}
 
 byte_of_zero_report : report byte_of_zero_trace ≡ byte_of_zero_text
 unfolding machine byte_of_zero_trace byte_of_zero_text
@@ -24,3 +25,8 @@ byte_of_zero_bus_record : BusRecordOf byte_of_zero_setup byte_of_zero_trace
 unfolding machine byte_of_zero_setup byte_of_zero_trace
 byte_of_zero_bus_record = bus_record_ok byte_of_zero_setup (log_of byte_of_zero_setup byte_of_zero_trace) (on_bus byte_of_zero_setup byte_of_zero_trace) (status_of byte_of_zero_trace) (bus_fates byte_of_zero_setup byte_of_zero_trace) (named_by_all byte_of_zero_setup byte_of_zero_trace)
     refl refl refl refl refl refl
+
+byte_of_zero_records : AreRecordsOf byte_of_zero_setup byte_of_zero_trace
+unfolding machine byte_of_zero_setup byte_of_zero_trace
+byte_of_zero_records = records byte_of_zero_setup byte_of_zero_trace refl
+    (of_one (RecordOf byte_of_zero_setup byte_of_zero_trace) byte_of_zero_record_0) byte_of_zero_bus_record refl refl

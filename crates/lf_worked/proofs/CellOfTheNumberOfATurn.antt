@@ -7,6 +7,7 @@ use Rattle.lf_worked.specs.CellOfTheNumberOfATurn.{cell_of_the_number_of_a_turn_
 use Rattle.lf_worked.proofs.PromiseTest.{played}
 use Rattle.lf_worked.proofs.RecordTest.{kept_of, log_of, on_bus, named_by_all}
 use Rattle.lf_worked.proofs.RecordsTest.{RecordAt, BusRecordOf, status_of, bus_fates, record_ok, bus_record_ok}
+use Rattle.lf_worked.proofs.AllRecordsTest.{AreRecordsOf, RecordOf, records, of_one}
 
 cell_of_the_number_of_a_turn_report : report cell_of_the_number_of_a_turn_trace ≡ cell_of_the_number_of_a_turn_text
 unfolding machine cell_of_the_number_of_a_turn_trace cell_of_the_number_of_a_turn_text
@@ -24,3 +25,8 @@ cell_of_the_number_of_a_turn_bus_record : BusRecordOf cell_of_the_number_of_a_tu
 unfolding machine cell_of_the_number_of_a_turn_setup cell_of_the_number_of_a_turn_trace
 cell_of_the_number_of_a_turn_bus_record = bus_record_ok cell_of_the_number_of_a_turn_setup (log_of cell_of_the_number_of_a_turn_setup cell_of_the_number_of_a_turn_trace) (on_bus cell_of_the_number_of_a_turn_setup cell_of_the_number_of_a_turn_trace) (status_of cell_of_the_number_of_a_turn_trace) (bus_fates cell_of_the_number_of_a_turn_setup cell_of_the_number_of_a_turn_trace) (named_by_all cell_of_the_number_of_a_turn_setup cell_of_the_number_of_a_turn_trace)
     refl refl refl refl refl refl
+
+cell_of_the_number_of_a_turn_records : AreRecordsOf cell_of_the_number_of_a_turn_setup cell_of_the_number_of_a_turn_trace
+unfolding machine cell_of_the_number_of_a_turn_setup cell_of_the_number_of_a_turn_trace
+cell_of_the_number_of_a_turn_records = records cell_of_the_number_of_a_turn_setup cell_of_the_number_of_a_turn_trace refl
+    (of_one (RecordOf cell_of_the_number_of_a_turn_setup cell_of_the_number_of_a_turn_trace) cell_of_the_number_of_a_turn_record_0) cell_of_the_number_of_a_turn_bus_record refl refl

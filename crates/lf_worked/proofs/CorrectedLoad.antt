@@ -7,6 +7,7 @@ use Rattle.lf_worked.specs.CorrectedLoad.{corrected_load_setup, corrected_load_e
 use Rattle.lf_worked.proofs.PromiseTest.{played}
 use Rattle.lf_worked.proofs.RecordTest.{kept_of, log_of, on_bus, named_by_all}
 use Rattle.lf_worked.proofs.RecordsTest.{RecordAt, BusRecordOf, status_of, bus_fates, record_ok, bus_record_ok}
+use Rattle.lf_worked.proofs.AllRecordsTest.{AreRecordsOf, RecordOf, records, of_one}
 
 corrected_load_report : report corrected_load_trace ≡ corrected_load_text
 unfolding machine corrected_load_trace corrected_load_text
@@ -24,3 +25,8 @@ corrected_load_bus_record : BusRecordOf corrected_load_setup corrected_load_trac
 unfolding machine corrected_load_setup corrected_load_trace
 corrected_load_bus_record = bus_record_ok corrected_load_setup (log_of corrected_load_setup corrected_load_trace) (on_bus corrected_load_setup corrected_load_trace) (status_of corrected_load_trace) (bus_fates corrected_load_setup corrected_load_trace) (named_by_all corrected_load_setup corrected_load_trace)
     refl refl refl refl refl refl
+
+corrected_load_records : AreRecordsOf corrected_load_setup corrected_load_trace
+unfolding machine corrected_load_setup corrected_load_trace
+corrected_load_records = records corrected_load_setup corrected_load_trace refl
+    (of_one (RecordOf corrected_load_setup corrected_load_trace) corrected_load_record_0) corrected_load_bus_record refl refl

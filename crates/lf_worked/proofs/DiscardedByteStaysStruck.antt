@@ -7,6 +7,7 @@ use Rattle.lf_worked.specs.DiscardedByteStaysStruck.{discarded_byte_stays_struck
 use Rattle.lf_worked.proofs.PromiseTest.{played}
 use Rattle.lf_worked.proofs.RecordTest.{kept_of, log_of, on_bus, named_by_all}
 use Rattle.lf_worked.proofs.RecordsTest.{RecordAt, BusRecordOf, status_of, bus_fates, record_ok, bus_record_ok}
+use Rattle.lf_worked.proofs.AllRecordsTest.{AreRecordsOf, RecordOf, records, of_one}
 
 discarded_byte_stays_struck_report : report discarded_byte_stays_struck_trace ≡ discarded_byte_stays_struck_text
 unfolding machine discarded_byte_stays_struck_trace discarded_byte_stays_struck_text
@@ -24,3 +25,8 @@ discarded_byte_stays_struck_bus_record : BusRecordOf discarded_byte_stays_struck
 unfolding machine discarded_byte_stays_struck_setup discarded_byte_stays_struck_trace
 discarded_byte_stays_struck_bus_record = bus_record_ok discarded_byte_stays_struck_setup (log_of discarded_byte_stays_struck_setup discarded_byte_stays_struck_trace) (on_bus discarded_byte_stays_struck_setup discarded_byte_stays_struck_trace) (status_of discarded_byte_stays_struck_trace) (bus_fates discarded_byte_stays_struck_setup discarded_byte_stays_struck_trace) (named_by_all discarded_byte_stays_struck_setup discarded_byte_stays_struck_trace)
     refl refl refl refl refl refl
+
+discarded_byte_stays_struck_records : AreRecordsOf discarded_byte_stays_struck_setup discarded_byte_stays_struck_trace
+unfolding machine discarded_byte_stays_struck_setup discarded_byte_stays_struck_trace
+discarded_byte_stays_struck_records = records discarded_byte_stays_struck_setup discarded_byte_stays_struck_trace refl
+    (of_one (RecordOf discarded_byte_stays_struck_setup discarded_byte_stays_struck_trace) discarded_byte_stays_struck_record_0) discarded_byte_stays_struck_bus_record refl refl

@@ -7,6 +7,7 @@ use Rattle.lf_worked.specs.FetchAfterStruckByte.{fetch_after_struck_byte_setup, 
 use Rattle.lf_worked.proofs.PromiseTest.{played}
 use Rattle.lf_worked.proofs.RecordTest.{kept_of, log_of, on_bus, named_by_all}
 use Rattle.lf_worked.proofs.RecordsTest.{RecordAt, BusRecordOf, status_of, bus_fates, record_ok, bus_record_ok}
+use Rattle.lf_worked.proofs.AllRecordsTest.{AreRecordsOf, RecordOf, records, of_one}
 
 fetch_after_struck_byte_report : report fetch_after_struck_byte_trace ≡ fetch_after_struck_byte_text
 unfolding machine fetch_after_struck_byte_trace fetch_after_struck_byte_text
@@ -24,3 +25,8 @@ fetch_after_struck_byte_bus_record : BusRecordOf fetch_after_struck_byte_setup f
 unfolding machine fetch_after_struck_byte_setup fetch_after_struck_byte_trace
 fetch_after_struck_byte_bus_record = bus_record_ok fetch_after_struck_byte_setup (log_of fetch_after_struck_byte_setup fetch_after_struck_byte_trace) (on_bus fetch_after_struck_byte_setup fetch_after_struck_byte_trace) (status_of fetch_after_struck_byte_trace) (bus_fates fetch_after_struck_byte_setup fetch_after_struck_byte_trace) (named_by_all fetch_after_struck_byte_setup fetch_after_struck_byte_trace)
     refl refl refl refl refl refl
+
+fetch_after_struck_byte_records : AreRecordsOf fetch_after_struck_byte_setup fetch_after_struck_byte_trace
+unfolding machine fetch_after_struck_byte_setup fetch_after_struck_byte_trace
+fetch_after_struck_byte_records = records fetch_after_struck_byte_setup fetch_after_struck_byte_trace refl
+    (of_one (RecordOf fetch_after_struck_byte_setup fetch_after_struck_byte_trace) fetch_after_struck_byte_record_0) fetch_after_struck_byte_bus_record refl refl

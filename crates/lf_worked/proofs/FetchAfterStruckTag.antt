@@ -7,6 +7,7 @@ use Rattle.lf_worked.specs.FetchAfterStruckTag.{fetch_after_struck_tag_setup, fe
 use Rattle.lf_worked.proofs.PromiseTest.{played}
 use Rattle.lf_worked.proofs.RecordTest.{kept_of, log_of, on_bus, named_by_all}
 use Rattle.lf_worked.proofs.RecordsTest.{RecordAt, BusRecordOf, status_of, bus_fates, record_ok, bus_record_ok}
+use Rattle.lf_worked.proofs.AllRecordsTest.{AreRecordsOf, RecordOf, records, of_one}
 
 fetch_after_struck_tag_report : report fetch_after_struck_tag_trace ≡ fetch_after_struck_tag_text
 unfolding machine fetch_after_struck_tag_trace fetch_after_struck_tag_text
@@ -24,3 +25,8 @@ fetch_after_struck_tag_bus_record : BusRecordOf fetch_after_struck_tag_setup fet
 unfolding machine fetch_after_struck_tag_setup fetch_after_struck_tag_trace
 fetch_after_struck_tag_bus_record = bus_record_ok fetch_after_struck_tag_setup (log_of fetch_after_struck_tag_setup fetch_after_struck_tag_trace) (on_bus fetch_after_struck_tag_setup fetch_after_struck_tag_trace) (status_of fetch_after_struck_tag_trace) (bus_fates fetch_after_struck_tag_setup fetch_after_struck_tag_trace) (named_by_all fetch_after_struck_tag_setup fetch_after_struck_tag_trace)
     refl refl refl refl refl refl
+
+fetch_after_struck_tag_records : AreRecordsOf fetch_after_struck_tag_setup fetch_after_struck_tag_trace
+unfolding machine fetch_after_struck_tag_setup fetch_after_struck_tag_trace
+fetch_after_struck_tag_records = records fetch_after_struck_tag_setup fetch_after_struck_tag_trace refl
+    (of_one (RecordOf fetch_after_struck_tag_setup fetch_after_struck_tag_trace) fetch_after_struck_tag_record_0) fetch_after_struck_tag_bus_record refl refl

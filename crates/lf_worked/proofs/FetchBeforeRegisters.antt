@@ -7,6 +7,7 @@ use Rattle.lf_worked.specs.FetchBeforeRegisters.{fetch_before_registers_setup, f
 use Rattle.lf_worked.proofs.PromiseTest.{played}
 use Rattle.lf_worked.proofs.RecordTest.{kept_of, log_of, on_bus, named_by_all}
 use Rattle.lf_worked.proofs.RecordsTest.{RecordAt, BusRecordOf, status_of, bus_fates, record_ok, bus_record_ok}
+use Rattle.lf_worked.proofs.AllRecordsTest.{AreRecordsOf, RecordOf, records, of_one}
 
 fetch_before_registers_report : report fetch_before_registers_trace ≡ fetch_before_registers_text
 unfolding machine fetch_before_registers_trace fetch_before_registers_text
@@ -24,3 +25,8 @@ fetch_before_registers_bus_record : BusRecordOf fetch_before_registers_setup fet
 unfolding machine fetch_before_registers_setup fetch_before_registers_trace
 fetch_before_registers_bus_record = bus_record_ok fetch_before_registers_setup (log_of fetch_before_registers_setup fetch_before_registers_trace) (on_bus fetch_before_registers_setup fetch_before_registers_trace) (status_of fetch_before_registers_trace) (bus_fates fetch_before_registers_setup fetch_before_registers_trace) (named_by_all fetch_before_registers_setup fetch_before_registers_trace)
     refl refl refl refl refl refl
+
+fetch_before_registers_records : AreRecordsOf fetch_before_registers_setup fetch_before_registers_trace
+unfolding machine fetch_before_registers_setup fetch_before_registers_trace
+fetch_before_registers_records = records fetch_before_registers_setup fetch_before_registers_trace refl
+    (of_one (RecordOf fetch_before_registers_setup fetch_before_registers_trace) fetch_before_registers_record_0) fetch_before_registers_bus_record refl refl

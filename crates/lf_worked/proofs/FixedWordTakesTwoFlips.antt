@@ -7,6 +7,7 @@ use Rattle.lf_worked.specs.FixedWordTakesTwoFlips.{fixed_word_takes_two_flips_se
 use Rattle.lf_worked.proofs.PromiseTest.{played}
 use Rattle.lf_worked.proofs.RecordTest.{kept_of, log_of, on_bus, named_by_all}
 use Rattle.lf_worked.proofs.RecordsTest.{RecordAt, BusRecordOf, status_of, bus_fates, record_ok, bus_record_ok}
+use Rattle.lf_worked.proofs.AllRecordsTest.{AreRecordsOf, RecordOf, records, of_one}
 
 fixed_word_takes_two_flips_report : report fixed_word_takes_two_flips_trace ≡ fixed_word_takes_two_flips_text
 unfolding machine fixed_word_takes_two_flips_trace fixed_word_takes_two_flips_text
@@ -24,3 +25,8 @@ fixed_word_takes_two_flips_bus_record : BusRecordOf fixed_word_takes_two_flips_s
 unfolding machine fixed_word_takes_two_flips_setup fixed_word_takes_two_flips_trace
 fixed_word_takes_two_flips_bus_record = bus_record_ok fixed_word_takes_two_flips_setup (log_of fixed_word_takes_two_flips_setup fixed_word_takes_two_flips_trace) (on_bus fixed_word_takes_two_flips_setup fixed_word_takes_two_flips_trace) (status_of fixed_word_takes_two_flips_trace) (bus_fates fixed_word_takes_two_flips_setup fixed_word_takes_two_flips_trace) (named_by_all fixed_word_takes_two_flips_setup fixed_word_takes_two_flips_trace)
     refl refl refl refl refl refl
+
+fixed_word_takes_two_flips_records : AreRecordsOf fixed_word_takes_two_flips_setup fixed_word_takes_two_flips_trace
+unfolding machine fixed_word_takes_two_flips_setup fixed_word_takes_two_flips_trace
+fixed_word_takes_two_flips_records = records fixed_word_takes_two_flips_setup fixed_word_takes_two_flips_trace refl
+    (of_one (RecordOf fixed_word_takes_two_flips_setup fixed_word_takes_two_flips_trace) fixed_word_takes_two_flips_record_0) fixed_word_takes_two_flips_bus_record refl refl

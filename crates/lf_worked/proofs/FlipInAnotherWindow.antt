@@ -7,6 +7,7 @@ use Rattle.lf_worked.specs.FlipInAnotherWindow.{flip_in_another_window_setup, fl
 use Rattle.lf_worked.proofs.PromiseTest.{played}
 use Rattle.lf_worked.proofs.RecordTest.{kept_of, log_of, on_bus, named_by_all}
 use Rattle.lf_worked.proofs.RecordsTest.{RecordAt, BusRecordOf, status_of, bus_fates, record_ok, bus_record_ok}
+use Rattle.lf_worked.proofs.AllRecordsTest.{AreRecordsOf, RecordOf, records, of_one}
 
 flip_in_another_window_report : report flip_in_another_window_trace ≡ flip_in_another_window_text
 unfolding machine flip_in_another_window_trace flip_in_another_window_text
@@ -24,3 +25,8 @@ flip_in_another_window_bus_record : BusRecordOf flip_in_another_window_setup fli
 unfolding machine flip_in_another_window_setup flip_in_another_window_trace
 flip_in_another_window_bus_record = bus_record_ok flip_in_another_window_setup (log_of flip_in_another_window_setup flip_in_another_window_trace) (on_bus flip_in_another_window_setup flip_in_another_window_trace) (status_of flip_in_another_window_trace) (bus_fates flip_in_another_window_setup flip_in_another_window_trace) (named_by_all flip_in_another_window_setup flip_in_another_window_trace)
     refl refl refl refl refl refl
+
+flip_in_another_window_records : AreRecordsOf flip_in_another_window_setup flip_in_another_window_trace
+unfolding machine flip_in_another_window_setup flip_in_another_window_trace
+flip_in_another_window_records = records flip_in_another_window_setup flip_in_another_window_trace refl
+    (of_one (RecordOf flip_in_another_window_setup flip_in_another_window_trace) flip_in_another_window_record_0) flip_in_another_window_bus_record refl refl

@@ -7,6 +7,7 @@ use Rattle.lf_worked.specs.FlipsOfCoreOne.{flips_of_core_one_setup, flips_of_cor
 use Rattle.lf_worked.proofs.PromiseTest.{played}
 use Rattle.lf_worked.proofs.RecordTest.{kept_of, log_of, on_bus, named_by_all}
 use Rattle.lf_worked.proofs.RecordsTest.{RecordAt, BusRecordOf, status_of, bus_fates, record_ok, bus_record_ok}
+use Rattle.lf_worked.proofs.AllRecordsTest.{AreRecordsOf, RecordOf, records, of_two}
 
 flips_of_core_one_report : report flips_of_core_one_trace ≡ flips_of_core_one_text
 unfolding machine flips_of_core_one_trace flips_of_core_one_text
@@ -28,3 +29,8 @@ flips_of_core_one_bus_record : BusRecordOf flips_of_core_one_setup flips_of_core
 unfolding machine flips_of_core_one_setup flips_of_core_one_trace
 flips_of_core_one_bus_record = bus_record_ok flips_of_core_one_setup (log_of flips_of_core_one_setup flips_of_core_one_trace) (on_bus flips_of_core_one_setup flips_of_core_one_trace) (status_of flips_of_core_one_trace) (bus_fates flips_of_core_one_setup flips_of_core_one_trace) (named_by_all flips_of_core_one_setup flips_of_core_one_trace)
     refl refl refl refl refl refl
+
+flips_of_core_one_records : AreRecordsOf flips_of_core_one_setup flips_of_core_one_trace
+unfolding machine flips_of_core_one_setup flips_of_core_one_trace
+flips_of_core_one_records = records flips_of_core_one_setup flips_of_core_one_trace refl
+    (of_two (RecordOf flips_of_core_one_setup flips_of_core_one_trace) flips_of_core_one_record_0 flips_of_core_one_record_1) flips_of_core_one_bus_record refl refl

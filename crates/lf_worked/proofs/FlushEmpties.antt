@@ -7,6 +7,7 @@ use Rattle.lf_worked.specs.FlushEmpties.{flush_empties_setup, flush_empties_even
 use Rattle.lf_worked.proofs.PromiseTest.{played}
 use Rattle.lf_worked.proofs.RecordTest.{kept_of, log_of, on_bus, named_by_all}
 use Rattle.lf_worked.proofs.RecordsTest.{RecordAt, BusRecordOf, status_of, bus_fates, record_ok, bus_record_ok}
+use Rattle.lf_worked.proofs.AllRecordsTest.{AreRecordsOf, RecordOf, records, of_one}
 
 flush_empties_report : report flush_empties_trace ≡ flush_empties_text
 unfolding machine flush_empties_trace flush_empties_text
@@ -24,3 +25,8 @@ flush_empties_bus_record : BusRecordOf flush_empties_setup flush_empties_trace
 unfolding machine flush_empties_setup flush_empties_trace
 flush_empties_bus_record = bus_record_ok flush_empties_setup (log_of flush_empties_setup flush_empties_trace) (on_bus flush_empties_setup flush_empties_trace) (status_of flush_empties_trace) (bus_fates flush_empties_setup flush_empties_trace) (named_by_all flush_empties_setup flush_empties_trace)
     refl refl refl refl refl refl
+
+flush_empties_records : AreRecordsOf flush_empties_setup flush_empties_trace
+unfolding machine flush_empties_setup flush_empties_trace
+flush_empties_records = records flush_empties_setup flush_empties_trace refl
+    (of_one (RecordOf flush_empties_setup flush_empties_trace) flush_empties_record_0) flush_empties_bus_record refl refl

@@ -7,6 +7,7 @@ use Rattle.lf_worked.specs.FourSteps.{four_steps_setup, four_steps_events, four_
 use Rattle.lf_worked.proofs.PromiseTest.{played}
 use Rattle.lf_worked.proofs.RecordTest.{kept_of, log_of, on_bus, named_by_all}
 use Rattle.lf_worked.proofs.RecordsTest.{RecordAt, BusRecordOf, status_of, bus_fates, record_ok, bus_record_ok}
+use Rattle.lf_worked.proofs.AllRecordsTest.{AreRecordsOf, RecordOf, records, of_one}
 
 four_steps_report : report four_steps_trace ≡ four_steps_text
 unfolding machine four_steps_trace four_steps_text
@@ -24,3 +25,8 @@ four_steps_bus_record : BusRecordOf four_steps_setup four_steps_trace
 unfolding machine four_steps_setup four_steps_trace
 four_steps_bus_record = bus_record_ok four_steps_setup (log_of four_steps_setup four_steps_trace) (on_bus four_steps_setup four_steps_trace) (status_of four_steps_trace) (bus_fates four_steps_setup four_steps_trace) (named_by_all four_steps_setup four_steps_trace)
     refl refl refl refl refl refl
+
+four_steps_records : AreRecordsOf four_steps_setup four_steps_trace
+unfolding machine four_steps_setup four_steps_trace
+four_steps_records = records four_steps_setup four_steps_trace refl
+    (of_one (RecordOf four_steps_setup four_steps_trace) four_steps_record_0) four_steps_bus_record refl refl

@@ -7,6 +7,7 @@ use Rattle.lf_worked.specs.FullBuffer.{full_buffer_setup, full_buffer_events, fu
 use Rattle.lf_worked.proofs.PromiseTest.{played}
 use Rattle.lf_worked.proofs.RecordTest.{kept_of, log_of, on_bus, named_by_all}
 use Rattle.lf_worked.proofs.RecordsTest.{RecordAt, BusRecordOf, status_of, bus_fates, record_ok, bus_record_ok}
+use Rattle.lf_worked.proofs.AllRecordsTest.{AreRecordsOf, RecordOf, records, of_one}
 
 full_buffer_report : report full_buffer_trace ≡ full_buffer_text
 unfolding machine full_buffer_trace full_buffer_text
@@ -24,3 +25,8 @@ full_buffer_bus_record : BusRecordOf full_buffer_setup full_buffer_trace
 unfolding machine full_buffer_setup full_buffer_trace
 full_buffer_bus_record = bus_record_ok full_buffer_setup (log_of full_buffer_setup full_buffer_trace) (on_bus full_buffer_setup full_buffer_trace) (status_of full_buffer_trace) (bus_fates full_buffer_setup full_buffer_trace) (named_by_all full_buffer_setup full_buffer_trace)
     refl refl refl refl refl refl
+
+full_buffer_records : AreRecordsOf full_buffer_setup full_buffer_trace
+unfolding machine full_buffer_setup full_buffer_trace
+full_buffer_records = records full_buffer_setup full_buffer_trace refl
+    (of_one (RecordOf full_buffer_setup full_buffer_trace) full_buffer_record_0) full_buffer_bus_record refl refl

@@ -7,6 +7,7 @@ use Rattle.lf_worked.specs.HalfStoreByCoreOne.{half_store_by_core_one_setup, hal
 use Rattle.lf_worked.proofs.PromiseTest.{played}
 use Rattle.lf_worked.proofs.RecordTest.{kept_of, log_of, on_bus, named_by_all}
 use Rattle.lf_worked.proofs.RecordsTest.{RecordAt, BusRecordOf, status_of, bus_fates, record_ok, bus_record_ok}
+use Rattle.lf_worked.proofs.AllRecordsTest.{AreRecordsOf, RecordOf, records, of_two}
 
 half_store_by_core_one_report : report half_store_by_core_one_trace ≡ half_store_by_core_one_text
 unfolding machine half_store_by_core_one_trace half_store_by_core_one_text
@@ -28,3 +29,8 @@ half_store_by_core_one_bus_record : BusRecordOf half_store_by_core_one_setup hal
 unfolding machine half_store_by_core_one_setup half_store_by_core_one_trace
 half_store_by_core_one_bus_record = bus_record_ok half_store_by_core_one_setup (log_of half_store_by_core_one_setup half_store_by_core_one_trace) (on_bus half_store_by_core_one_setup half_store_by_core_one_trace) (status_of half_store_by_core_one_trace) (bus_fates half_store_by_core_one_setup half_store_by_core_one_trace) (named_by_all half_store_by_core_one_setup half_store_by_core_one_trace)
     refl refl refl refl refl refl
+
+half_store_by_core_one_records : AreRecordsOf half_store_by_core_one_setup half_store_by_core_one_trace
+unfolding machine half_store_by_core_one_setup half_store_by_core_one_trace
+half_store_by_core_one_records = records half_store_by_core_one_setup half_store_by_core_one_trace refl
+    (of_two (RecordOf half_store_by_core_one_setup half_store_by_core_one_trace) half_store_by_core_one_record_0 half_store_by_core_one_record_1) half_store_by_core_one_bus_record refl refl

@@ -7,13 +7,14 @@ use Rattle.std.proofs.lemmas.Bool.{eqb-false, leb-false, ltb-false}
 use Rattle.lf_model.specs.Course.Outcome.{Need}
 use Rattle.lf_model.specs.Course.Outcome.Need.{NoTurn, Turn, RegisterStop}
 use Rattle.lf_model.specs.Course.Progress.{Completion, ErrorTrap}
-use Rattle.lf_model.specs.Ledger.Account.{TurnAccount, Account}
+use Rattle.lf_model.specs.Ledger.Account.{TurnAccount, FinalAccount, Account}
 use Rattle.lf_model.specs.Ledger.CoreAccount.{CoreAccount}
 use Rattle.lf_model.specs.Ledger.OrderAccount.{OrderAccount}
 use Rattle.lf_model.specs.Promise.Turns.{TurnMade}
 use Rattle.lf_model.specs.Names.{kind_place, why_place, fate_place}
 use Rattle.lf_model.specs.declared.bus.Entry.{Entry}
 use Rattle.lf_model.specs.declared.bus.Transfer.{Transfer}
+use Rattle.lf_model.specs.declared.trace.Fate.{Fate}
 
 -- things with different numbers
 pub differ : {A : Type 0} {a b : A} (f : A → ℕ) (x y : ℕ) → f a ≡ x → f b ≡ y → (x == y) ≡ false → a ≡ b → ⊥
@@ -201,3 +202,24 @@ first_place errors = option_map_or (λ e. e.place) (slice_get errors 0) 0
 
 abbrev pub yes_at : ℕ → List Bool → ℕ
 yes_at i answers = option_map_or from_bool (slice_get answers i) 0
+
+-- ---- of the core, the place, the transfer or the flip at one place of an account
+
+abbrev pub owed_there : Option CoreAccount → ℕ
+owed_there k = option_map_or (λ k. k.owed) k 0
+
+abbrev pub lost_there : Option CoreAccount → ℕ
+lost_there k = option_map_or (λ k. length k.lost) k 0
+
+abbrev pub way_there : Option OrderAccount → ℕ
+way_there o = option_map_or (λ o. option_map_or (λ c. if_some c.way) o.retired 0) o 0
+
+-- the kind of the turn that was needed, with one added
+abbrev pub need_there : Option TurnAccount → ℕ
+need_there t = option_map_or (λ t. kind_of t.need) t 0
+
+abbrev pub fate_there : Option Fate → ℕ
+fate_there f = option_map_or (λ f. fate_place f + 1) f 0
+
+abbrev pub status_there : FinalAccount → ℕ
+status_there final = final.ahb.status

@@ -72,10 +72,10 @@ has_steps-sound setup r own passes =
       halting = retired.1;
     }
 
-abbrev steps_at : Setup → Trace → ℕ → Bool
+abbrev pub steps_at : Setup → Trace → ℕ → Bool
 steps_at setup trace c = option_map_or (λ r. has_steps setup r (own_transfers c trace.transfers)) (slice_get trace.cores c) true
 
-steps_at-sound : (setup : Setup) (trace : Trace) (c : ℕ) → steps_at setup trace c ≡ true → StepsAt setup trace c
+pub steps_at-sound : (setup : Setup) (trace : Trace) (c : ℕ) → steps_at setup trace c ≡ true → StepsAt setup trace c
 steps_at-sound setup trace c passes =
     holds_if_some (λ r. has_steps setup r (own_transfers c trace.transfers)) (λ r. HasSteps setup r (own_transfers c trace.transfers))
     (λ r. has_steps-sound setup r (own_transfers c trace.transfers)) (slice_get trace.cores c) passes

@@ -7,6 +7,8 @@ mod LedgerTest
 mod PromiseTest
 mod RecordTest
 mod RecordsTest
+mod AllRecordsTest
+mod FirstPlaces
 mod Items
 mod ByteOut
 mod CorrectedLoad
@@ -107,3 +109,7 @@ mod WrongWithoutLedger
 mod WrongHeadline
 mod WrongSchedule
 mod WrongRanges
+mod WrongFirst
+mod WrongAlone
+mod WrongRecords
+mod NeverBad

@@ -7,6 +7,7 @@ use Rattle.lf_worked.specs.LimitWithLastDrains.{limit_with_last_drains_setup, li
 use Rattle.lf_worked.proofs.PromiseTest.{played}
 use Rattle.lf_worked.proofs.RecordTest.{kept_of, log_of, on_bus, named_by_all}
 use Rattle.lf_worked.proofs.RecordsTest.{RecordAt, BusRecordOf, status_of, bus_fates, record_ok, bus_record_ok}
+use Rattle.lf_worked.proofs.AllRecordsTest.{AreRecordsOf, RecordOf, records, of_one}
 
 limit_with_last_drains_report : report limit_with_last_drains_trace ≡ limit_with_last_drains_text
 unfolding machine limit_with_last_drains_trace limit_with_last_drains_text
@@ -24,3 +25,8 @@ limit_with_last_drains_bus_record : BusRecordOf limit_with_last_drains_setup lim
 unfolding machine limit_with_last_drains_setup limit_with_last_drains_trace
 limit_with_last_drains_bus_record = bus_record_ok limit_with_last_drains_setup (log_of limit_with_last_drains_setup limit_with_last_drains_trace) (on_bus limit_with_last_drains_setup limit_with_last_drains_trace) (status_of limit_with_last_drains_trace) (bus_fates limit_with_last_drains_setup limit_with_last_drains_trace) (named_by_all limit_with_last_drains_setup limit_with_last_drains_trace)
     refl refl refl refl refl refl
+
+limit_with_last_drains_records : AreRecordsOf limit_with_last_drains_setup limit_with_last_drains_trace
+unfolding machine limit_with_last_drains_setup limit_with_last_drains_trace
+limit_with_last_drains_records = records limit_with_last_drains_setup limit_with_last_drains_trace refl
+    (of_one (RecordOf limit_with_last_drains_setup limit_with_last_drains_trace) limit_with_last_drains_record_0) limit_with_last_drains_bus_record refl refl

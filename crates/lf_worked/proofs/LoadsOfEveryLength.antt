@@ -7,6 +7,7 @@ use Rattle.lf_worked.specs.LoadsOfEveryLength.{loads_of_every_length_setup, load
 use Rattle.lf_worked.proofs.PromiseTest.{played}
 use Rattle.lf_worked.proofs.RecordTest.{kept_of, log_of, on_bus, named_by_all}
 use Rattle.lf_worked.proofs.RecordsTest.{RecordAt, BusRecordOf, status_of, bus_fates, record_ok, bus_record_ok}
+use Rattle.lf_worked.proofs.AllRecordsTest.{AreRecordsOf, RecordOf, records, of_one}
 
 loads_of_every_length_report : report loads_of_every_length_trace ≡ loads_of_every_length_text
 unfolding machine loads_of_every_length_trace loads_of_every_length_text
@@ -24,3 +25,8 @@ loads_of_every_length_bus_record : BusRecordOf loads_of_every_length_setup loads
 unfolding machine loads_of_every_length_setup loads_of_every_length_trace
 loads_of_every_length_bus_record = bus_record_ok loads_of_every_length_setup (log_of loads_of_every_length_setup loads_of_every_length_trace) (on_bus loads_of_every_length_setup loads_of_every_length_trace) (status_of loads_of_every_length_trace) (bus_fates loads_of_every_length_setup loads_of_every_length_trace) (named_by_all loads_of_every_length_setup loads_of_every_length_trace)
     refl refl refl refl refl refl
+
+loads_of_every_length_records : AreRecordsOf loads_of_every_length_setup loads_of_every_length_trace
+unfolding machine loads_of_every_length_setup loads_of_every_length_trace
+loads_of_every_length_records = records loads_of_every_length_setup loads_of_every_length_trace refl
+    (of_one (RecordOf loads_of_every_length_setup loads_of_every_length_trace) loads_of_every_length_record_0) loads_of_every_length_bus_record refl refl

@@ -7,6 +7,7 @@ use Rattle.lf_worked.specs.LostByteStore.{lost_byte_store_setup, lost_byte_store
 use Rattle.lf_worked.proofs.PromiseTest.{played}
 use Rattle.lf_worked.proofs.RecordTest.{kept_of, log_of, on_bus, named_by_all}
 use Rattle.lf_worked.proofs.RecordsTest.{RecordAt, BusRecordOf, status_of, bus_fates, record_ok, bus_record_ok}
+use Rattle.lf_worked.proofs.AllRecordsTest.{AreRecordsOf, RecordOf, records, of_one}
 
 lost_byte_store_report : report lost_byte_store_trace ≡ lost_byte_store_text
 unfolding machine lost_byte_store_trace lost_byte_store_text
@@ -24,3 +25,8 @@ lost_byte_store_bus_record : BusRecordOf lost_byte_store_setup lost_byte_store_t
 unfolding machine lost_byte_store_setup lost_byte_store_trace
 lost_byte_store_bus_record = bus_record_ok lost_byte_store_setup (log_of lost_byte_store_setup lost_byte_store_trace) (on_bus lost_byte_store_setup lost_byte_store_trace) (status_of lost_byte_store_trace) (bus_fates lost_byte_store_setup lost_byte_store_trace) (named_by_all lost_byte_store_setup lost_byte_store_trace)
     refl refl refl refl refl refl
+
+lost_byte_store_records : AreRecordsOf lost_byte_store_setup lost_byte_store_trace
+unfolding machine lost_byte_store_setup lost_byte_store_trace
+lost_byte_store_records = records lost_byte_store_setup lost_byte_store_trace refl
+    (of_one (RecordOf lost_byte_store_setup lost_byte_store_trace) lost_byte_store_record_0) lost_byte_store_bus_record refl refl

@@ -7,6 +7,7 @@ use Rattle.lf_worked.specs.LostStoresOfTwoCores.{lost_stores_of_two_cores_setup,
 use Rattle.lf_worked.proofs.PromiseTest.{played}
 use Rattle.lf_worked.proofs.RecordTest.{kept_of, log_of, on_bus, named_by_all}
 use Rattle.lf_worked.proofs.RecordsTest.{RecordAt, BusRecordOf, status_of, bus_fates, record_ok, bus_record_ok}
+use Rattle.lf_worked.proofs.AllRecordsTest.{AreRecordsOf, RecordOf, records, of_two}
 
 lost_stores_of_two_cores_report : report lost_stores_of_two_cores_trace ≡ lost_stores_of_two_cores_text
 unfolding machine lost_stores_of_two_cores_trace lost_stores_of_two_cores_text
@@ -28,3 +29,8 @@ lost_stores_of_two_cores_bus_record : BusRecordOf lost_stores_of_two_cores_setup
 unfolding machine lost_stores_of_two_cores_setup lost_stores_of_two_cores_trace
 lost_stores_of_two_cores_bus_record = bus_record_ok lost_stores_of_two_cores_setup (log_of lost_stores_of_two_cores_setup lost_stores_of_two_cores_trace) (on_bus lost_stores_of_two_cores_setup lost_stores_of_two_cores_trace) (status_of lost_stores_of_two_cores_trace) (bus_fates lost_stores_of_two_cores_setup lost_stores_of_two_cores_trace) (named_by_all lost_stores_of_two_cores_setup lost_stores_of_two_cores_trace)
     refl refl refl refl refl refl
+
+lost_stores_of_two_cores_records : AreRecordsOf lost_stores_of_two_cores_setup lost_stores_of_two_cores_trace
+unfolding machine lost_stores_of_two_cores_setup lost_stores_of_two_cores_trace
+lost_stores_of_two_cores_records = records lost_stores_of_two_cores_setup lost_stores_of_two_cores_trace refl
+    (of_two (RecordOf lost_stores_of_two_cores_setup lost_stores_of_two_cores_trace) lost_stores_of_two_cores_record_0 lost_stores_of_two_cores_record_1) lost_stores_of_two_cores_bus_record refl refl

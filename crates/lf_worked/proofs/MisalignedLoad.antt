@@ -7,6 +7,7 @@ use Rattle.lf_worked.specs.MisalignedLoad.{misaligned_load_setup, misaligned_loa
 use Rattle.lf_worked.proofs.PromiseTest.{played}
 use Rattle.lf_worked.proofs.RecordTest.{kept_of, log_of, on_bus, named_by_all}
 use Rattle.lf_worked.proofs.RecordsTest.{RecordAt, BusRecordOf, status_of, bus_fates, record_ok, bus_record_ok}
+use Rattle.lf_worked.proofs.AllRecordsTest.{AreRecordsOf, RecordOf, records, of_one}
 
 misaligned_load_report : report misaligned_load_trace ≡ misaligned_load_text
 unfolding machine misaligned_load_trace misaligned_load_text
@@ -24,3 +25,8 @@ misaligned_load_bus_record : BusRecordOf misaligned_load_setup misaligned_load_t
 unfolding machine misaligned_load_setup misaligned_load_trace
 misaligned_load_bus_record = bus_record_ok misaligned_load_setup (log_of misaligned_load_setup misaligned_load_trace) (on_bus misaligned_load_setup misaligned_load_trace) (status_of misaligned_load_trace) (bus_fates misaligned_load_setup misaligned_load_trace) (named_by_all misaligned_load_setup misaligned_load_trace)
     refl refl refl refl refl refl
+
+misaligned_load_records : AreRecordsOf misaligned_load_setup misaligned_load_trace
+unfolding machine misaligned_load_setup misaligned_load_trace
+misaligned_load_records = records misaligned_load_setup misaligned_load_trace refl
+    (of_one (RecordOf misaligned_load_setup misaligned_load_trace) misaligned_load_record_0) misaligned_load_bus_record refl refl

@@ -7,6 +7,7 @@ use Rattle.lf_worked.specs.NoLookBeforeAStop.{no_look_before_a_stop_setup, no_lo
 use Rattle.lf_worked.proofs.PromiseTest.{played}
 use Rattle.lf_worked.proofs.RecordTest.{kept_of, log_of, on_bus, named_by_all}
 use Rattle.lf_worked.proofs.RecordsTest.{RecordAt, BusRecordOf, status_of, bus_fates, record_ok, bus_record_ok}
+use Rattle.lf_worked.proofs.AllRecordsTest.{AreRecordsOf, RecordOf, records, of_one}
 
 no_look_before_a_stop_report : report no_look_before_a_stop_trace ≡ no_look_before_a_stop_text
 unfolding machine no_look_before_a_stop_trace no_look_before_a_stop_text
@@ -24,3 +25,8 @@ no_look_before_a_stop_bus_record : BusRecordOf no_look_before_a_stop_setup no_lo
 unfolding machine no_look_before_a_stop_setup no_look_before_a_stop_trace
 no_look_before_a_stop_bus_record = bus_record_ok no_look_before_a_stop_setup (log_of no_look_before_a_stop_setup no_look_before_a_stop_trace) (on_bus no_look_before_a_stop_setup no_look_before_a_stop_trace) (status_of no_look_before_a_stop_trace) (bus_fates no_look_before_a_stop_setup no_look_before_a_stop_trace) (named_by_all no_look_before_a_stop_setup no_look_before_a_stop_trace)
     refl refl refl refl refl refl
+
+no_look_before_a_stop_records : AreRecordsOf no_look_before_a_stop_setup no_look_before_a_stop_trace
+unfolding machine no_look_before_a_stop_setup no_look_before_a_stop_trace
+no_look_before_a_stop_records = records no_look_before_a_stop_setup no_look_before_a_stop_trace refl
+    (of_one (RecordOf no_look_before_a_stop_setup no_look_before_a_stop_trace) no_look_before_a_stop_record_0) no_look_before_a_stop_bus_record refl refl

@@ -7,6 +7,7 @@ use Rattle.lf_worked.specs.OneStep.{one_step_setup, one_step_events, one_step_tr
 use Rattle.lf_worked.proofs.PromiseTest.{played}
 use Rattle.lf_worked.proofs.RecordTest.{kept_of, log_of, on_bus, named_by_all}
 use Rattle.lf_worked.proofs.RecordsTest.{RecordAt, BusRecordOf, status_of, bus_fates, record_ok, bus_record_ok}
+use Rattle.lf_worked.proofs.AllRecordsTest.{AreRecordsOf, RecordOf, records, of_one}
 
 one_step_report : report one_step_trace ≡ one_step_text
 unfolding machine one_step_trace one_step_text
@@ -24,3 +25,8 @@ one_step_bus_record : BusRecordOf one_step_setup one_step_trace
 unfolding machine one_step_setup one_step_trace
 one_step_bus_record = bus_record_ok one_step_setup (log_of one_step_setup one_step_trace) (on_bus one_step_setup one_step_trace) (status_of one_step_trace) (bus_fates one_step_setup one_step_trace) (named_by_all one_step_setup one_step_trace)
     refl refl refl refl refl refl
+
+one_step_records : AreRecordsOf one_step_setup one_step_trace
+unfolding machine one_step_setup one_step_trace
+one_step_records = records one_step_setup one_step_trace refl
+    (of_one (RecordOf one_step_setup one_step_trace) one_step_record_0) one_step_bus_record refl refl

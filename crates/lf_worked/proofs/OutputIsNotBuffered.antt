@@ -7,6 +7,7 @@ use Rattle.lf_worked.specs.OutputIsNotBuffered.{output_is_not_buffered_setup, ou
 use Rattle.lf_worked.proofs.PromiseTest.{played}
 use Rattle.lf_worked.proofs.RecordTest.{kept_of, log_of, on_bus, named_by_all}
 use Rattle.lf_worked.proofs.RecordsTest.{RecordAt, BusRecordOf, status_of, bus_fates, record_ok, bus_record_ok}
+use Rattle.lf_worked.proofs.AllRecordsTest.{AreRecordsOf, RecordOf, records, of_one}
 
 output_is_not_buffered_report : report output_is_not_buffered_trace ≡ output_is_not_buffered_text
 unfolding machine output_is_not_buffered_trace output_is_not_buffered_text
@@ -24,3 +25,8 @@ output_is_not_buffered_bus_record : BusRecordOf output_is_not_buffered_setup out
 unfolding machine output_is_not_buffered_setup output_is_not_buffered_trace
 output_is_not_buffered_bus_record = bus_record_ok output_is_not_buffered_setup (log_of output_is_not_buffered_setup output_is_not_buffered_trace) (on_bus output_is_not_buffered_setup output_is_not_buffered_trace) (status_of output_is_not_buffered_trace) (bus_fates output_is_not_buffered_setup output_is_not_buffered_trace) (named_by_all output_is_not_buffered_setup output_is_not_buffered_trace)
     refl refl refl refl refl refl
+
+output_is_not_buffered_records : AreRecordsOf output_is_not_buffered_setup output_is_not_buffered_trace
+unfolding machine output_is_not_buffered_setup output_is_not_buffered_trace
+output_is_not_buffered_records = records output_is_not_buffered_setup output_is_not_buffered_trace refl
+    (of_one (RecordOf output_is_not_buffered_setup output_is_not_buffered_trace) output_is_not_buffered_record_0) output_is_not_buffered_bus_record refl refl

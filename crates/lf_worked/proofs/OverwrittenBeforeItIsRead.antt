@@ -7,6 +7,7 @@ use Rattle.lf_worked.specs.OverwrittenBeforeItIsRead.{overwritten_before_it_is_r
 use Rattle.lf_worked.proofs.PromiseTest.{played}
 use Rattle.lf_worked.proofs.RecordTest.{kept_of, log_of, on_bus, named_by_all}
 use Rattle.lf_worked.proofs.RecordsTest.{RecordAt, BusRecordOf, status_of, bus_fates, record_ok, bus_record_ok}
+use Rattle.lf_worked.proofs.AllRecordsTest.{AreRecordsOf, RecordOf, records, of_one}
 
 overwritten_before_it_is_read_report : report overwritten_before_it_is_read_trace ≡ overwritten_before_it_is_read_text
 unfolding machine overwritten_before_it_is_read_trace overwritten_before_it_is_read_text
@@ -24,3 +25,8 @@ overwritten_before_it_is_read_bus_record : BusRecordOf overwritten_before_it_is_
 unfolding machine overwritten_before_it_is_read_setup overwritten_before_it_is_read_trace
 overwritten_before_it_is_read_bus_record = bus_record_ok overwritten_before_it_is_read_setup (log_of overwritten_before_it_is_read_setup overwritten_before_it_is_read_trace) (on_bus overwritten_before_it_is_read_setup overwritten_before_it_is_read_trace) (status_of overwritten_before_it_is_read_trace) (bus_fates overwritten_before_it_is_read_setup overwritten_before_it_is_read_trace) (named_by_all overwritten_before_it_is_read_setup overwritten_before_it_is_read_trace)
     refl refl refl refl refl refl
+
+overwritten_before_it_is_read_records : AreRecordsOf overwritten_before_it_is_read_setup overwritten_before_it_is_read_trace
+unfolding machine overwritten_before_it_is_read_setup overwritten_before_it_is_read_trace
+overwritten_before_it_is_read_records = records overwritten_before_it_is_read_setup overwritten_before_it_is_read_trace refl
+    (of_one (RecordOf overwritten_before_it_is_read_setup overwritten_before_it_is_read_trace) overwritten_before_it_is_read_record_0) overwritten_before_it_is_read_bus_record refl refl

@@ -1,5 +1,5 @@
 -- Whether all that is promised of a run holds of a trace, by a test that computes.
-use Rattle.std.proofs.Common.{ℕ, ◌≡◌, ◌&&◌, nat_le, Bool, true, false, refl, List, length, map, slice_get}
+use Rattle.std.proofs.Common.{ℕ, ◌≡◌, ◌&&◌, nat_le, Bool, true, false, refl, ap, List, length, map, slice_get, Option, Some, None}
 use Rattle.std.specs.Prelude.{◌==◌, is_none}
 use Rattle.std.specs.List.{list_all, range_with_len}
 use Rattle.std.specs.Option.{option_map_or}
@@ -8,14 +8,14 @@ use Rattle.lf_model.specs.Bus.Replay.{Core}
 use Rattle.lf_model.specs.Course.Progress.{ErrorTrap}
 use Rattle.lf_model.specs.Ledger.Account.{replay_of, is_bad_at}
 use Rattle.lf_model.specs.Ledger.CoreAccount.{blank_registers, errors_reported}
-use Rattle.lf_model.specs.Ledger.Same.{same_bool, same_error}
+use Rattle.lf_model.specs.Ledger.Same.{same_bool, same_number, same_option, same_error}
 use Rattle.lf_model.specs.Ledger.Steps.{own_transfers}
 use Rattle.lf_model.specs.Promise.Follows.{Follows, turns_of}
 use Rattle.lf_model.specs.Promise.Headline.{Headline, HasStopCause, HasBlanks, StopCauseAt, BlankAt, WatchAt}
 use Rattle.lf_model.specs.Promise.Played.{IsPlayedBy}
 use Rattle.lf_model.specs.Promise.Regular.{IsRegular, is_regular_core, is_regular_op, is_regular_word, steps_fit, turn_of}
 use Rattle.lf_model.specs.Promise.RegularTransfer.{fits_word, is_regular_transfer}
-use Rattle.lf_model.specs.Promise.Turns.{TurnMade, turn_reported}
+use Rattle.lf_model.specs.Promise.Turns.{TurnMade, turn_of_transfer}
 use Rattle.lf_model.specs.declared.setup.Event.{Event}
 use Rattle.lf_model.specs.declared.setup.Setup.{Setup}
 use Rattle.lf_model.specs.declared.trace.CoreResult.{CoreResult}
@@ -33,6 +33,12 @@ is_same_bool false false passes = refl
 is_same_bool true false passes = absurd (false≢true passes)
 is_same_bool false true passes = absurd (false≢true passes)
 
+is_same_turn_count : (x y : Option ℕ) → same_option same_number x y ≡ true → x ≡ y
+is_same_turn_count None None passes = refl
+is_same_turn_count (Some x) (Some y) passes = ap Some (eqb-true x y passes)
+is_same_turn_count None (Some y) passes = absurd (false≢true passes)
+is_same_turn_count (Some x) None passes = absurd (false≢true passes)
+
 pub is_same_error : (a b : ErrorTrap) → same_error a b ≡ true → a ≡ b
 is_same_error a b passes =
     let trap_type = and_parts (a.trap_type == b.trap_type) _ passes in
@@ -44,7 +50,7 @@ is_same_error a b passes =
       place = eqb-true a.place b.place place.0 i;
       syndrome = eqb-true a.syndrome b.syndrome syndrome.0 i;
       steps = eqb-true a.steps b.steps steps.0 i;
-      turns = eqb-true a.turns b.turns steps.1 i;
+      turns = is_same_turn_count a.turns b.turns steps.1 i;
     }
 
 -- ---- causes of stops, and blanks
@@ -122,7 +128,7 @@ is_same_turn a b passes = let parts = and_parts (a.master == b.master) _ passes 
     λ i. record { master = eqb-true a.master b.master parts.0 i; scheduled = is_same_bool a.scheduled b.scheduled parts.1 i }
 
 abbrev pub does_follow : Setup → List Event → Trace → Bool
-does_follow setup events trace = same_list same_turn (turns_of setup events trace) (map turn_reported trace.transfers)
+does_follow setup events trace = same_list same_turn (turns_of setup events trace) (map turn_of_transfer trace.transfers)
 
 pub follows : (setup : Setup) (events : List Event) (trace : Trace) → does_follow setup events trace ≡ true → Follows setup events trace
 follows setup events trace passes = record { turns = is_same_list same_turn is_same_turn (turns_of setup events trace) _ passes }

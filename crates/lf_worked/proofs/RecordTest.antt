@@ -21,7 +21,7 @@ use Rattle.lf_model.specs.Names.{same_kind}
 use Rattle.lf_model.specs.Promise.Regular.{is_regular_core, is_regular_op}
 use Rattle.lf_model.specs.Records.CoreRecord.{of_core_alone, core_of_record}
 use Rattle.lf_model.specs.Records.CoreRules.{ground_of_ended}
-use Rattle.lf_model.specs.Records.OwnTurns.{before_turn, next_effect, IsRightTurn, OwnTurnAt, words_named}
+use Rattle.lf_model.specs.Records.OwnTurns.{before_turn, next_effect, with_word_count, IsRightTurn, OwnTurnAt, words_named}
 use Rattle.lf_model.specs.Records.SeenOrder.{is_load, is_entry_of, front, waiting, LoadReads, AtomicReads, SeenAreEarlier, AtomicIsSeen, LostIsLast, HasSeen}
 use Rattle.lf_model.specs.Start.{initial_byte}
 use Rattle.lf_model.specs.declared.bus.Entry.{Entry}
@@ -229,7 +229,7 @@ is_same_need (RegisterStop cell) (Turn kind why) passes = absurd (false≢true p
 
 abbrev is_right_turn : Ground → Transfer → Progress → Bool
 is_right_turn g t k = same_need (turn_needs g t.why (turn_attempt g t.why (next_effect g k) k) k) (Turn t.kind t.why)
-    && same_transfer (record (addressed g (next_effect g k) k t) { words = t.words; syn = t.syn }) t
+    && same_transfer (record (with_word_count (addressed g (next_effect g k) k t)) { syn = t.syn }) t
 
 is_right_turn-sound : (g : Ground) (t : Transfer) (k : Progress) → is_right_turn g t k ≡ true → IsRightTurn g t k
 is_right_turn-sound g t k passes =

@@ -5,7 +5,6 @@ use Rattle.std.specs.List.{list_all, range_with_len}
 use Rattle.std.proofs.lemmas.Bool.{leb-true, and_parts}
 use Rattle.lf_model.specs.Bus.Status.{AhbStatus, status_after}
 use Rattle.lf_model.specs.Bus.Walk.{scrubber}
-use Rattle.lf_model.specs.Course.Syndromes.{enters_log}
 use Rattle.lf_model.specs.Ledger.Account.{replay_of}
 use Rattle.lf_model.specs.Ledger.CoreAccount.{core_by_course, core_as_reported}
 use Rattle.lf_model.specs.Ledger.FlipFate.{flip_fates}
@@ -13,7 +12,7 @@ use Rattle.lf_model.specs.Ledger.Steps.{own_transfers}
 use Rattle.lf_model.specs.Promise.Regular.{is_regular_core, is_regular_op, turn_of}
 use Rattle.lf_model.specs.Promise.RegularTransfer.{is_regular_on_bus}
 use Rattle.lf_model.specs.Records.BusMemory.{memory_after}
-use Rattle.lf_model.specs.Records.BusRecord.{BusRecordOk, entry_placed, transfer_placed, leaves_text, has_length, no_arrays}
+use Rattle.lf_model.specs.Records.BusRecord.{BusRecordOk, is_successful, entry_placed, transfer_placed, leaves_text, has_length, is_in_memory, no_arrays}
 use Rattle.lf_model.specs.Records.CoreRecord.{RecordOk, core_of_record, completions_reported, of_core_alone}
 use Rattle.lf_model.specs.Records.CoreRules.{ground_of_ended, course_of_ended}
 use Rattle.lf_model.specs.Records.OwnTurns.{words_named}
@@ -100,11 +99,11 @@ is_bus_record setup log transfers = list_all (leaves_text setup.image.text) log
     && (passes_below (core_share_at setup transfers) setup.config.cores
     && (nat_le (length (own_transfers scrubber transfers)) setup.config.scrub_turns
     && (passes_below (entries_share_at setup log) setup.config.cores
-    && (list_all is_regular_on_bus transfers && list_all has_length transfers)))))
+    && (list_all is_regular_on_bus transfers && (list_all has_length transfers && list_all (is_in_memory setup.config.ram) transfers))))))
 
 pub bus_record_ok : (setup : Setup) (log : List Entry) (transfers : List Transfer) (status : AhbStatus) (fates : List Fate) (named : List Word2)
     → is_bus_record setup log transfers ≡ true
-    → map entry_placed log ≡ map transfer_placed (filter enters_log transfers)
+    → map entry_placed log ≡ map transfer_placed (filter is_successful transfers)
     → (memory_after setup.flips named transfers).answers ≡ transfers
     → status ≡ status_after transfers
     → map turn_of transfers ≡ range_with_len 0 (length transfers)
@@ -117,6 +116,7 @@ bus_record_ok setup log transfers status fates named passes log_is answered stat
     let scrubs = and_parts (nat_le (length (own_transfers scrubber transfers)) setup.config.scrub_turns) _ shares.1 in
     let entries = and_parts (passes_below (entries_share_at setup log) setup.config.cores) _ scrubs.1 in
     let each = and_parts (list_all is_regular_on_bus transfers) _ entries.1 in
+    let lengths = and_parts (list_all has_length transfers) _ each.1 in
     record {
       log_is = log_is;
       text = text.0;
@@ -129,6 +129,7 @@ bus_record_ok setup log transfers status fates named passes log_is answered stat
       entries_share = λ c within. leb-true _ _ (passes_at (entries_share_at setup log) setup.config.cores entries.0 c within);
       turns = turns;
       regular = each.0;
-      lengths = each.1;
+      lengths = lengths.0;
+      in_memory = lengths.1;
       fates_are = fates_are;
     }

@@ -7,6 +7,7 @@ use Rattle.lf_worked.specs.ScrubbedWord.{scrubbed_word_setup, scrubbed_word_even
 use Rattle.lf_worked.proofs.PromiseTest.{played}
 use Rattle.lf_worked.proofs.RecordTest.{kept_of, log_of, on_bus, named_by_all}
 use Rattle.lf_worked.proofs.RecordsTest.{RecordAt, BusRecordOf, status_of, bus_fates, record_ok, bus_record_ok}
+use Rattle.lf_worked.proofs.AllRecordsTest.{AreRecordsOf, RecordOf, records, of_one}
 
 scrubbed_word_report : report scrubbed_word_trace ≡ scrubbed_word_text
 unfolding machine scrubbed_word_trace scrubbed_word_text
@@ -24,3 +25,8 @@ scrubbed_word_bus_record : BusRecordOf scrubbed_word_setup scrubbed_word_trace
 unfolding machine scrubbed_word_setup scrubbed_word_trace
 scrubbed_word_bus_record = bus_record_ok scrubbed_word_setup (log_of scrubbed_word_setup scrubbed_word_trace) (on_bus scrubbed_word_setup scrubbed_word_trace) (status_of scrubbed_word_trace) (bus_fates scrubbed_word_setup scrubbed_word_trace) (named_by_all scrubbed_word_setup scrubbed_word_trace)
     refl refl refl refl refl refl
+
+scrubbed_word_records : AreRecordsOf scrubbed_word_setup scrubbed_word_trace
+unfolding machine scrubbed_word_setup scrubbed_word_trace
+scrubbed_word_records = records scrubbed_word_setup scrubbed_word_trace refl
+    (of_one (RecordOf scrubbed_word_setup scrubbed_word_trace) scrubbed_word_record_0) scrubbed_word_bus_record refl refl

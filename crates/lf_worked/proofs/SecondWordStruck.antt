@@ -7,6 +7,7 @@ use Rattle.lf_worked.specs.SecondWordStruck.{second_word_struck_setup, second_wo
 use Rattle.lf_worked.proofs.PromiseTest.{played}
 use Rattle.lf_worked.proofs.RecordTest.{kept_of, log_of, on_bus, named_by_all}
 use Rattle.lf_worked.proofs.RecordsTest.{RecordAt, BusRecordOf, status_of, bus_fates, record_ok, bus_record_ok}
+use Rattle.lf_worked.proofs.AllRecordsTest.{AreRecordsOf, RecordOf, records, of_one}
 
 second_word_struck_report : report second_word_struck_trace ≡ second_word_struck_text
 unfolding machine second_word_struck_trace second_word_struck_text
@@ -24,3 +25,8 @@ second_word_struck_bus_record : BusRecordOf second_word_struck_setup second_word
 unfolding machine second_word_struck_setup second_word_struck_trace
 second_word_struck_bus_record = bus_record_ok second_word_struck_setup (log_of second_word_struck_setup second_word_struck_trace) (on_bus second_word_struck_setup second_word_struck_trace) (status_of second_word_struck_trace) (bus_fates second_word_struck_setup second_word_struck_trace) (named_by_all second_word_struck_setup second_word_struck_trace)
     refl refl refl refl refl refl
+
+second_word_struck_records : AreRecordsOf second_word_struck_setup second_word_struck_trace
+unfolding machine second_word_struck_setup second_word_struck_trace
+second_word_struck_records = records second_word_struck_setup second_word_struck_trace refl
+    (of_one (RecordOf second_word_struck_setup second_word_struck_trace) second_word_struck_record_0) second_word_struck_bus_record refl refl

@@ -7,6 +7,7 @@ use Rattle.lf_worked.specs.SignedQuotient.{signed_quotient_setup, signed_quotien
 use Rattle.lf_worked.proofs.PromiseTest.{played}
 use Rattle.lf_worked.proofs.RecordTest.{kept_of, log_of, on_bus, named_by_all}
 use Rattle.lf_worked.proofs.RecordsTest.{RecordAt, BusRecordOf, status_of, bus_fates, record_ok, bus_record_ok}
+use Rattle.lf_worked.proofs.AllRecordsTest.{AreRecordsOf, RecordOf, records, of_one}
 
 signed_quotient_report : report signed_quotient_trace ≡ signed_quotient_text
 unfolding machine signed_quotient_trace signed_quotient_text
@@ -24,3 +25,8 @@ signed_quotient_bus_record : BusRecordOf signed_quotient_setup signed_quotient_t
 unfolding machine signed_quotient_setup signed_quotient_trace
 signed_quotient_bus_record = bus_record_ok signed_quotient_setup (log_of signed_quotient_setup signed_quotient_trace) (on_bus signed_quotient_setup signed_quotient_trace) (status_of signed_quotient_trace) (bus_fates signed_quotient_setup signed_quotient_trace) (named_by_all signed_quotient_setup signed_quotient_trace)
     refl refl refl refl refl refl
+
+signed_quotient_records : AreRecordsOf signed_quotient_setup signed_quotient_trace
+unfolding machine signed_quotient_setup signed_quotient_trace
+signed_quotient_records = records signed_quotient_setup signed_quotient_trace refl
+    (of_one (RecordOf signed_quotient_setup signed_quotient_trace) signed_quotient_record_0) signed_quotient_bus_record refl refl

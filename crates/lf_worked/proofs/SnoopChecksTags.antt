@@ -7,6 +7,7 @@ use Rattle.lf_worked.specs.SnoopChecksTags.{snoop_checks_tags_setup, snoop_check
 use Rattle.lf_worked.proofs.PromiseTest.{played}
 use Rattle.lf_worked.proofs.RecordTest.{kept_of, log_of, on_bus, named_by_all}
 use Rattle.lf_worked.proofs.RecordsTest.{RecordAt, BusRecordOf, status_of, bus_fates, record_ok, bus_record_ok}
+use Rattle.lf_worked.proofs.AllRecordsTest.{AreRecordsOf, RecordOf, records, of_two}
 
 snoop_checks_tags_report : report snoop_checks_tags_trace ≡ snoop_checks_tags_text
 unfolding machine snoop_checks_tags_trace snoop_checks_tags_text
@@ -28,3 +29,8 @@ snoop_checks_tags_bus_record : BusRecordOf snoop_checks_tags_setup snoop_checks_
 unfolding machine snoop_checks_tags_setup snoop_checks_tags_trace
 snoop_checks_tags_bus_record = bus_record_ok snoop_checks_tags_setup (log_of snoop_checks_tags_setup snoop_checks_tags_trace) (on_bus snoop_checks_tags_setup snoop_checks_tags_trace) (status_of snoop_checks_tags_trace) (bus_fates snoop_checks_tags_setup snoop_checks_tags_trace) (named_by_all snoop_checks_tags_setup snoop_checks_tags_trace)
     refl refl refl refl refl refl
+
+snoop_checks_tags_records : AreRecordsOf snoop_checks_tags_setup snoop_checks_tags_trace
+unfolding machine snoop_checks_tags_setup snoop_checks_tags_trace
+snoop_checks_tags_records = records snoop_checks_tags_setup snoop_checks_tags_trace refl
+    (of_two (RecordOf snoop_checks_tags_setup snoop_checks_tags_trace) snoop_checks_tags_record_0 snoop_checks_tags_record_1) snoop_checks_tags_bus_record refl refl

@@ -7,6 +7,7 @@ use Rattle.lf_worked.specs.StopAtRegister.{stop_at_register_setup, stop_at_regis
 use Rattle.lf_worked.proofs.PromiseTest.{played}
 use Rattle.lf_worked.proofs.RecordTest.{kept_of, log_of, on_bus, named_by_all}
 use Rattle.lf_worked.proofs.RecordsTest.{RecordAt, BusRecordOf, status_of, bus_fates, record_ok, bus_record_ok}
+use Rattle.lf_worked.proofs.AllRecordsTest.{AreRecordsOf, RecordOf, records, of_one}
 
 stop_at_register_report : report stop_at_register_trace ≡ stop_at_register_text
 unfolding machine stop_at_register_trace stop_at_register_text
@@ -24,3 +25,8 @@ stop_at_register_bus_record : BusRecordOf stop_at_register_setup stop_at_registe
 unfolding machine stop_at_register_setup stop_at_register_trace
 stop_at_register_bus_record = bus_record_ok stop_at_register_setup (log_of stop_at_register_setup stop_at_register_trace) (on_bus stop_at_register_setup stop_at_register_trace) (status_of stop_at_register_trace) (bus_fates stop_at_register_setup stop_at_register_trace) (named_by_all stop_at_register_setup stop_at_register_trace)
     refl refl refl refl refl refl
+
+stop_at_register_records : AreRecordsOf stop_at_register_setup stop_at_register_trace
+unfolding machine stop_at_register_setup stop_at_register_trace
+stop_at_register_records = records stop_at_register_setup stop_at_register_trace refl
+    (of_one (RecordOf stop_at_register_setup stop_at_register_trace) stop_at_register_record_0) stop_at_register_bus_record refl refl

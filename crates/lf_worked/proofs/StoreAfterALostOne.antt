@@ -7,6 +7,7 @@ use Rattle.lf_worked.specs.StoreAfterALostOne.{store_after_a_lost_one_setup, sto
 use Rattle.lf_worked.proofs.PromiseTest.{played}
 use Rattle.lf_worked.proofs.RecordTest.{kept_of, log_of, on_bus, named_by_all}
 use Rattle.lf_worked.proofs.RecordsTest.{RecordAt, BusRecordOf, status_of, bus_fates, record_ok, bus_record_ok}
+use Rattle.lf_worked.proofs.AllRecordsTest.{AreRecordsOf, RecordOf, records, of_two}
 
 store_after_a_lost_one_report : report store_after_a_lost_one_trace ≡ store_after_a_lost_one_text
 unfolding machine store_after_a_lost_one_trace store_after_a_lost_one_text
@@ -28,3 +29,8 @@ store_after_a_lost_one_bus_record : BusRecordOf store_after_a_lost_one_setup sto
 unfolding machine store_after_a_lost_one_setup store_after_a_lost_one_trace
 store_after_a_lost_one_bus_record = bus_record_ok store_after_a_lost_one_setup (log_of store_after_a_lost_one_setup store_after_a_lost_one_trace) (on_bus store_after_a_lost_one_setup store_after_a_lost_one_trace) (status_of store_after_a_lost_one_trace) (bus_fates store_after_a_lost_one_setup store_after_a_lost_one_trace) (named_by_all store_after_a_lost_one_setup store_after_a_lost_one_trace)
     refl refl refl refl refl refl
+
+store_after_a_lost_one_records : AreRecordsOf store_after_a_lost_one_setup store_after_a_lost_one_trace
+unfolding machine store_after_a_lost_one_setup store_after_a_lost_one_trace
+store_after_a_lost_one_records = records store_after_a_lost_one_setup store_after_a_lost_one_trace refl
+    (of_two (RecordOf store_after_a_lost_one_setup store_after_a_lost_one_trace) store_after_a_lost_one_record_0 store_after_a_lost_one_record_1) store_after_a_lost_one_bus_record refl refl

@@ -7,6 +7,7 @@ use Rattle.lf_worked.specs.StoreToAWordNotValid.{store_to_a_word_not_valid_setup
 use Rattle.lf_worked.proofs.PromiseTest.{played}
 use Rattle.lf_worked.proofs.RecordTest.{kept_of, log_of, on_bus, named_by_all}
 use Rattle.lf_worked.proofs.RecordsTest.{RecordAt, BusRecordOf, status_of, bus_fates, record_ok, bus_record_ok}
+use Rattle.lf_worked.proofs.AllRecordsTest.{AreRecordsOf, RecordOf, records, of_one}
 
 store_to_a_word_not_valid_report : report store_to_a_word_not_valid_trace ≡ store_to_a_word_not_valid_text
 unfolding machine store_to_a_word_not_valid_trace store_to_a_word_not_valid_text
@@ -24,3 +25,8 @@ store_to_a_word_not_valid_bus_record : BusRecordOf store_to_a_word_not_valid_set
 unfolding machine store_to_a_word_not_valid_setup store_to_a_word_not_valid_trace
 store_to_a_word_not_valid_bus_record = bus_record_ok store_to_a_word_not_valid_setup (log_of store_to_a_word_not_valid_setup store_to_a_word_not_valid_trace) (on_bus store_to_a_word_not_valid_setup store_to_a_word_not_valid_trace) (status_of store_to_a_word_not_valid_trace) (bus_fates store_to_a_word_not_valid_setup store_to_a_word_not_valid_trace) (named_by_all store_to_a_word_not_valid_setup store_to_a_word_not_valid_trace)
     refl refl refl refl refl refl
+
+store_to_a_word_not_valid_records : AreRecordsOf store_to_a_word_not_valid_setup store_to_a_word_not_valid_trace
+unfolding machine store_to_a_word_not_valid_setup store_to_a_word_not_valid_trace
+store_to_a_word_not_valid_records = records store_to_a_word_not_valid_setup store_to_a_word_not_valid_trace refl
+    (of_one (RecordOf store_to_a_word_not_valid_setup store_to_a_word_not_valid_trace) store_to_a_word_not_valid_record_0) store_to_a_word_not_valid_bus_record refl refl

@@ -7,6 +7,7 @@ use Rattle.lf_worked.specs.StoreWritesStruckBytes.{store_writes_struck_bytes_set
 use Rattle.lf_worked.proofs.PromiseTest.{played}
 use Rattle.lf_worked.proofs.RecordTest.{kept_of, log_of, on_bus, named_by_all}
 use Rattle.lf_worked.proofs.RecordsTest.{RecordAt, BusRecordOf, status_of, bus_fates, record_ok, bus_record_ok}
+use Rattle.lf_worked.proofs.AllRecordsTest.{AreRecordsOf, RecordOf, records, of_one}
 
 store_writes_struck_bytes_report : report store_writes_struck_bytes_trace ≡ store_writes_struck_bytes_text
 unfolding machine store_writes_struck_bytes_trace store_writes_struck_bytes_text
@@ -24,3 +25,8 @@ store_writes_struck_bytes_bus_record : BusRecordOf store_writes_struck_bytes_set
 unfolding machine store_writes_struck_bytes_setup store_writes_struck_bytes_trace
 store_writes_struck_bytes_bus_record = bus_record_ok store_writes_struck_bytes_setup (log_of store_writes_struck_bytes_setup store_writes_struck_bytes_trace) (on_bus store_writes_struck_bytes_setup store_writes_struck_bytes_trace) (status_of store_writes_struck_bytes_trace) (bus_fates store_writes_struck_bytes_setup store_writes_struck_bytes_trace) (named_by_all store_writes_struck_bytes_setup store_writes_struck_bytes_trace)
     refl refl refl refl refl refl
+
+store_writes_struck_bytes_records : AreRecordsOf store_writes_struck_bytes_setup store_writes_struck_bytes_trace
+unfolding machine store_writes_struck_bytes_setup store_writes_struck_bytes_trace
+store_writes_struck_bytes_records = records store_writes_struck_bytes_setup store_writes_struck_bytes_trace refl
+    (of_one (RecordOf store_writes_struck_bytes_setup store_writes_struck_bytes_trace) store_writes_struck_bytes_record_0) store_writes_struck_bytes_bus_record refl refl

@@ -7,6 +7,7 @@ use Rattle.lf_worked.specs.StruckLine.{struck_line_setup, struck_line_events, st
 use Rattle.lf_worked.proofs.PromiseTest.{played}
 use Rattle.lf_worked.proofs.RecordTest.{kept_of, log_of, on_bus, named_by_all}
 use Rattle.lf_worked.proofs.RecordsTest.{RecordAt, BusRecordOf, status_of, bus_fates, record_ok, bus_record_ok}
+use Rattle.lf_worked.proofs.AllRecordsTest.{AreRecordsOf, RecordOf, records, of_one}
 
 struck_line_report : report struck_line_trace ≡ struck_line_text
 unfolding machine struck_line_trace struck_line_text
@@ -24,3 +25,8 @@ struck_line_bus_record : BusRecordOf struck_line_setup struck_line_trace
 unfolding machine struck_line_setup struck_line_trace
 struck_line_bus_record = bus_record_ok struck_line_setup (log_of struck_line_setup struck_line_trace) (on_bus struck_line_setup struck_line_trace) (status_of struck_line_trace) (bus_fates struck_line_setup struck_line_trace) (named_by_all struck_line_setup struck_line_trace)
     refl refl refl refl refl refl
+
+struck_line_records : AreRecordsOf struck_line_setup struck_line_trace
+unfolding machine struck_line_setup struck_line_trace
+struck_line_records = records struck_line_setup struck_line_trace refl
+    (of_one (RecordOf struck_line_setup struck_line_trace) struck_line_record_0) struck_line_bus_record refl refl

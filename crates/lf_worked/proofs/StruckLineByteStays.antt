@@ -7,6 +7,7 @@ use Rattle.lf_worked.specs.StruckLineByteStays.{struck_line_byte_stays_setup, st
 use Rattle.lf_worked.proofs.PromiseTest.{played}
 use Rattle.lf_worked.proofs.RecordTest.{kept_of, log_of, on_bus, named_by_all}
 use Rattle.lf_worked.proofs.RecordsTest.{RecordAt, BusRecordOf, status_of, bus_fates, record_ok, bus_record_ok}
+use Rattle.lf_worked.proofs.AllRecordsTest.{AreRecordsOf, RecordOf, records, of_one}
 
 struck_line_byte_stays_report : report struck_line_byte_stays_trace ≡ struck_line_byte_stays_text
 unfolding machine struck_line_byte_stays_trace struck_line_byte_stays_text
@@ -24,3 +25,8 @@ struck_line_byte_stays_bus_record : BusRecordOf struck_line_byte_stays_setup str
 unfolding machine struck_line_byte_stays_setup struck_line_byte_stays_trace
 struck_line_byte_stays_bus_record = bus_record_ok struck_line_byte_stays_setup (log_of struck_line_byte_stays_setup struck_line_byte_stays_trace) (on_bus struck_line_byte_stays_setup struck_line_byte_stays_trace) (status_of struck_line_byte_stays_trace) (bus_fates struck_line_byte_stays_setup struck_line_byte_stays_trace) (named_by_all struck_line_byte_stays_setup struck_line_byte_stays_trace)
     refl refl refl refl refl refl
+
+struck_line_byte_stays_records : AreRecordsOf struck_line_byte_stays_setup struck_line_byte_stays_trace
+unfolding machine struck_line_byte_stays_setup struck_line_byte_stays_trace
+struck_line_byte_stays_records = records struck_line_byte_stays_setup struck_line_byte_stays_trace refl
+    (of_one (RecordOf struck_line_byte_stays_setup struck_line_byte_stays_trace) struck_line_byte_stays_record_0) struck_line_byte_stays_bus_record refl refl

@@ -7,6 +7,7 @@ use Rattle.lf_worked.specs.StruckTag.{struck_tag_setup, struck_tag_events, struc
 use Rattle.lf_worked.proofs.PromiseTest.{played}
 use Rattle.lf_worked.proofs.RecordTest.{kept_of, log_of, on_bus, named_by_all}
 use Rattle.lf_worked.proofs.RecordsTest.{RecordAt, BusRecordOf, status_of, bus_fates, record_ok, bus_record_ok}
+use Rattle.lf_worked.proofs.AllRecordsTest.{AreRecordsOf, RecordOf, records, of_one}
 
 struck_tag_report : report struck_tag_trace ≡ struck_tag_text
 unfolding machine struck_tag_trace struck_tag_text
@@ -24,3 +25,8 @@ struck_tag_bus_record : BusRecordOf struck_tag_setup struck_tag_trace
 unfolding machine struck_tag_setup struck_tag_trace
 struck_tag_bus_record = bus_record_ok struck_tag_setup (log_of struck_tag_setup struck_tag_trace) (on_bus struck_tag_setup struck_tag_trace) (status_of struck_tag_trace) (bus_fates struck_tag_setup struck_tag_trace) (named_by_all struck_tag_setup struck_tag_trace)
     refl refl refl refl refl refl
+
+struck_tag_records : AreRecordsOf struck_tag_setup struck_tag_trace
+unfolding machine struck_tag_setup struck_tag_trace
+struck_tag_records = records struck_tag_setup struck_tag_trace refl
+    (of_one (RecordOf struck_tag_setup struck_tag_trace) struck_tag_record_0) struck_tag_bus_record refl refl

@@ -7,6 +7,7 @@ use Rattle.lf_worked.specs.TagCounterStopsAtThree.{tag_counter_stops_at_three_se
 use Rattle.lf_worked.proofs.PromiseTest.{played}
 use Rattle.lf_worked.proofs.RecordTest.{kept_of, log_of, on_bus, named_by_all}
 use Rattle.lf_worked.proofs.RecordsTest.{RecordAt, BusRecordOf, status_of, bus_fates, record_ok, bus_record_ok}
+use Rattle.lf_worked.proofs.AllRecordsTest.{AreRecordsOf, RecordOf, records, of_one}
 
 tag_counter_stops_at_three_report : report tag_counter_stops_at_three_trace ≡ tag_counter_stops_at_three_text
 unfolding machine tag_counter_stops_at_three_trace tag_counter_stops_at_three_text
@@ -24,3 +25,8 @@ tag_counter_stops_at_three_bus_record : BusRecordOf tag_counter_stops_at_three_s
 unfolding machine tag_counter_stops_at_three_setup tag_counter_stops_at_three_trace
 tag_counter_stops_at_three_bus_record = bus_record_ok tag_counter_stops_at_three_setup (log_of tag_counter_stops_at_three_setup tag_counter_stops_at_three_trace) (on_bus tag_counter_stops_at_three_setup tag_counter_stops_at_three_trace) (status_of tag_counter_stops_at_three_trace) (bus_fates tag_counter_stops_at_three_setup tag_counter_stops_at_three_trace) (named_by_all tag_counter_stops_at_three_setup tag_counter_stops_at_three_trace)
     refl refl refl refl refl refl
+
+tag_counter_stops_at_three_records : AreRecordsOf tag_counter_stops_at_three_setup tag_counter_stops_at_three_trace
+unfolding machine tag_counter_stops_at_three_setup tag_counter_stops_at_three_trace
+tag_counter_stops_at_three_records = records tag_counter_stops_at_three_setup tag_counter_stops_at_three_trace refl
+    (of_one (RecordOf tag_counter_stops_at_three_setup tag_counter_stops_at_three_trace) tag_counter_stops_at_three_record_0) tag_counter_stops_at_three_bus_record refl refl

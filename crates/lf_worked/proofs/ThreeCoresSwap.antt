@@ -7,6 +7,7 @@ use Rattle.lf_worked.specs.ThreeCoresSwap.{three_cores_swap_setup, three_cores_s
 use Rattle.lf_worked.proofs.PromiseTest.{played}
 use Rattle.lf_worked.proofs.RecordTest.{kept_of, log_of, on_bus, named_by_all}
 use Rattle.lf_worked.proofs.RecordsTest.{RecordAt, BusRecordOf, status_of, bus_fates, record_ok, bus_record_ok}
+use Rattle.lf_worked.proofs.AllRecordsTest.{AreRecordsOf, RecordOf, records, of_three}
 
 three_cores_swap_report : report three_cores_swap_trace ≡ three_cores_swap_text
 unfolding machine three_cores_swap_trace three_cores_swap_text
@@ -32,3 +33,8 @@ three_cores_swap_bus_record : BusRecordOf three_cores_swap_setup three_cores_swa
 unfolding machine three_cores_swap_setup three_cores_swap_trace
 three_cores_swap_bus_record = bus_record_ok three_cores_swap_setup (log_of three_cores_swap_setup three_cores_swap_trace) (on_bus three_cores_swap_setup three_cores_swap_trace) (status_of three_cores_swap_trace) (bus_fates three_cores_swap_setup three_cores_swap_trace) (named_by_all three_cores_swap_setup three_cores_swap_trace)
     refl refl refl refl refl refl
+
+three_cores_swap_records : AreRecordsOf three_cores_swap_setup three_cores_swap_trace
+unfolding machine three_cores_swap_setup three_cores_swap_trace
+three_cores_swap_records = records three_cores_swap_setup three_cores_swap_trace refl
+    (of_three (RecordOf three_cores_swap_setup three_cores_swap_trace) three_cores_swap_record_0 three_cores_swap_record_1 three_cores_swap_record_2) three_cores_swap_bus_record refl refl

@@ -7,6 +7,7 @@ use Rattle.lf_worked.specs.ThreeLinesInTwoWays.{three_lines_in_two_ways_setup, t
 use Rattle.lf_worked.proofs.PromiseTest.{played}
 use Rattle.lf_worked.proofs.RecordTest.{kept_of, log_of, on_bus, named_by_all}
 use Rattle.lf_worked.proofs.RecordsTest.{RecordAt, BusRecordOf, status_of, bus_fates, record_ok, bus_record_ok}
+use Rattle.lf_worked.proofs.AllRecordsTest.{AreRecordsOf, RecordOf, records, of_one}
 
 three_lines_in_two_ways_report : report three_lines_in_two_ways_trace ≡ three_lines_in_two_ways_text
 unfolding machine three_lines_in_two_ways_trace three_lines_in_two_ways_text
@@ -24,3 +25,8 @@ three_lines_in_two_ways_bus_record : BusRecordOf three_lines_in_two_ways_setup t
 unfolding machine three_lines_in_two_ways_setup three_lines_in_two_ways_trace
 three_lines_in_two_ways_bus_record = bus_record_ok three_lines_in_two_ways_setup (log_of three_lines_in_two_ways_setup three_lines_in_two_ways_trace) (on_bus three_lines_in_two_ways_setup three_lines_in_two_ways_trace) (status_of three_lines_in_two_ways_trace) (bus_fates three_lines_in_two_ways_setup three_lines_in_two_ways_trace) (named_by_all three_lines_in_two_ways_setup three_lines_in_two_ways_trace)
     refl refl refl refl refl refl
+
+three_lines_in_two_ways_records : AreRecordsOf three_lines_in_two_ways_setup three_lines_in_two_ways_trace
+unfolding machine three_lines_in_two_ways_setup three_lines_in_two_ways_trace
+three_lines_in_two_ways_records = records three_lines_in_two_ways_setup three_lines_in_two_ways_trace refl
+    (of_one (RecordOf three_lines_in_two_ways_setup three_lines_in_two_ways_trace) three_lines_in_two_ways_record_0) three_lines_in_two_ways_bus_record refl refl

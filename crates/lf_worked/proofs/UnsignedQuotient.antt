@@ -7,6 +7,7 @@ use Rattle.lf_worked.specs.UnsignedQuotient.{unsigned_quotient_setup, unsigned_q
 use Rattle.lf_worked.proofs.PromiseTest.{played}
 use Rattle.lf_worked.proofs.RecordTest.{kept_of, log_of, on_bus, named_by_all}
 use Rattle.lf_worked.proofs.RecordsTest.{RecordAt, BusRecordOf, status_of, bus_fates, record_ok, bus_record_ok}
+use Rattle.lf_worked.proofs.AllRecordsTest.{AreRecordsOf, RecordOf, records, of_one}
 
 unsigned_quotient_report : report unsigned_quotient_trace ≡ unsigned_quotient_text
 unfolding machine unsigned_quotient_trace unsigned_quotient_text
@@ -24,3 +25,8 @@ unsigned_quotient_bus_record : BusRecordOf unsigned_quotient_setup unsigned_quot
 unfolding machine unsigned_quotient_setup unsigned_quotient_trace
 unsigned_quotient_bus_record = bus_record_ok unsigned_quotient_setup (log_of unsigned_quotient_setup unsigned_quotient_trace) (on_bus unsigned_quotient_setup unsigned_quotient_trace) (status_of unsigned_quotient_trace) (bus_fates unsigned_quotient_setup unsigned_quotient_trace) (named_by_all unsigned_quotient_setup unsigned_quotient_trace)
     refl refl refl refl refl refl
+
+unsigned_quotient_records : AreRecordsOf unsigned_quotient_setup unsigned_quotient_trace
+unfolding machine unsigned_quotient_setup unsigned_quotient_trace
+unsigned_quotient_records = records unsigned_quotient_setup unsigned_quotient_trace refl
+    (of_one (RecordOf unsigned_quotient_setup unsigned_quotient_trace) unsigned_quotient_record_0) unsigned_quotient_bus_record refl refl

@@ -7,6 +7,7 @@ use Rattle.lf_worked.specs.Window.{window_setup, window_events, window_trace, wi
 use Rattle.lf_worked.proofs.PromiseTest.{played}
 use Rattle.lf_worked.proofs.RecordTest.{kept_of, log_of, on_bus, named_by_all}
 use Rattle.lf_worked.proofs.RecordsTest.{RecordAt, BusRecordOf, status_of, bus_fates, record_ok, bus_record_ok}
+use Rattle.lf_worked.proofs.AllRecordsTest.{AreRecordsOf, RecordOf, records, of_one}
 
 window_report : report window_trace ≡ window_text
 unfolding machine window_trace window_text
@@ -24,3 +25,8 @@ window_bus_record : BusRecordOf window_setup window_trace
 unfolding machine window_setup window_trace
 window_bus_record = bus_record_ok window_setup (log_of window_setup window_trace) (on_bus window_setup window_trace) (status_of window_trace) (bus_fates window_setup window_trace) (named_by_all window_setup window_trace)
     refl refl refl refl refl refl
+
+window_records : AreRecordsOf window_setup window_trace
+unfolding machine window_setup window_trace
+window_records = records window_setup window_trace refl
+    (of_one (RecordOf window_setup window_trace) window_record_0) window_bus_record refl refl

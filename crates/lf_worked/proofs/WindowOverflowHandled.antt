@@ -7,6 +7,7 @@ use Rattle.lf_worked.specs.WindowOverflowHandled.{window_overflow_handled_setup,
 use Rattle.lf_worked.proofs.PromiseTest.{played}
 use Rattle.lf_worked.proofs.RecordTest.{kept_of, log_of, on_bus, named_by_all}
 use Rattle.lf_worked.proofs.RecordsTest.{RecordAt, BusRecordOf, status_of, bus_fates, record_ok, bus_record_ok}
+use Rattle.lf_worked.proofs.AllRecordsTest.{AreRecordsOf, RecordOf, records, of_one}
 
 window_overflow_handled_report : report window_overflow_handled_trace ≡ window_overflow_handled_text
 unfolding machine window_overflow_handled_trace window_overflow_handled_text
@@ -24,3 +25,8 @@ window_overflow_handled_bus_record : BusRecordOf window_overflow_handled_setup w
 unfolding machine window_overflow_handled_setup window_overflow_handled_trace
 window_overflow_handled_bus_record = bus_record_ok window_overflow_handled_setup (log_of window_overflow_handled_setup window_overflow_handled_trace) (on_bus window_overflow_handled_setup window_overflow_handled_trace) (status_of window_overflow_handled_trace) (bus_fates window_overflow_handled_setup window_overflow_handled_trace) (named_by_all window_overflow_handled_setup window_overflow_handled_trace)
     refl refl refl refl refl refl
+
+window_overflow_handled_records : AreRecordsOf window_overflow_handled_setup window_overflow_handled_trace
+unfolding machine window_overflow_handled_setup window_overflow_handled_trace
+window_overflow_handled_records = records window_overflow_handled_setup window_overflow_handled_trace refl
+    (of_one (RecordOf window_overflow_handled_setup window_overflow_handled_trace) window_overflow_handled_record_0) window_overflow_handled_bus_record refl refl

@@ -35,7 +35,7 @@ no_first_fetch_refused : KeepsLedger byte_out_setup no_first_fetch → ⊥
 unfolding machine byte_out_setup no_first_fetch
 no_first_fetch_refused h = differ (owed_by 0) 4 0 refl refl refl h.same
 
--- no drain before error mode
+-- no drain before error mode: the step of the trap owes it, and so does the store that still waits
 unfoldable drain_left_out : Trace
 unfolding own_store_updates_trace
 drain_left_out = record (with_core 0 (λ r. record r { steps = 8 }) own_store_updates_trace) {
@@ -50,7 +50,7 @@ drain_left_out_text = refl
 
 drain_left_out_refused : KeepsLedger own_store_updates_setup drain_left_out → ⊥
 unfolding machine own_store_updates_setup drain_left_out
-drain_left_out_refused h = differ (owed_by 0) 1 0 refl refl refl h.same
+drain_left_out_refused h = differ (owed_by 0) 2 0 refl refl refl h.same
 
 -- another syndrome of the bad register
 unfoldable syndrome_of_a_stop : Trace

@@ -1,13 +1,13 @@
 -- The run of all masters over the transfers of a trace. Of a core's transfer it takes master, step, kind and cause, and of the
 -- scrubber's the master; all else it makes itself: each address by the core or the walk, and what memory answers by the
 -- histories of the words.
-use Rattle.std.specs.Prelude.{ℕ, ◌+◌, ◌*◌, ◌==◌, List, [], ◌∷◌, ◌++◌, map, fold, Option, Some, None, option_map, slice_get, if◌then◌else◌}
+use Rattle.std.specs.Prelude.{ℕ, ◌+◌, ◌*◌, ◌==◌, List, [], ◌∷◌, ◌++◌, map, fold, Option, Some, None, option_map, slice_get, nat_lt, if◌then◌else◌}
 use Rattle.lf_model.specs.Bus.Walk.{Walk, scrubber, walk_start, next_transfer, walked}
 use Rattle.lf_model.specs.Bus.Words.{Word, words_struck, words_begun, word_of, answered, words_after}
 use Rattle.lf_model.specs.Course.Core.{Ground, is_stop_at}
 use Rattle.lf_model.specs.Course.Course.{up_to, observe, finished}
 use Rattle.lf_model.specs.Course.Outcome.{Need}
-use Rattle.lf_model.specs.Course.Outcome.Need.{NoTurn}
+use Rattle.lf_model.specs.Course.Outcome.Need.{NoTurn, Turn}
 use Rattle.lf_model.specs.Course.Progress.{Progress, start}
 use Rattle.lf_model.specs.Course.Syndromes.{enters_log}
 use Rattle.lf_model.specs.Course.Turn.{Target, target_of, addressed, turn_attempt, turn_needs}
@@ -27,8 +27,8 @@ pub record LogEntry : Type 0 where
   pub core : ℕ
   pub number : ℕ
 
--- a turn as it is made: its transfer, what the step of a core needed, the entry that it puts into the log, and the word that an
--- error trap names
+-- a turn as it is made: its transfer, what the step of a core or the walk of the scrubber needed, the entry that it puts into the
+-- log, and the word that an error trap names
 pub record Made : Type 0 where
   pub transfer : Transfer
   pub need : Need
@@ -82,13 +82,21 @@ made_at g words t k e = made_of g e k t (answered words (addressed g e k t))
 abbrev pub made_by_core : List Word → Transfer → Core → Made
 made_by_core words t c = let k = up_to c.on t c.progress in made_at c.on words t k (effect_at_pc c.on.setup c.on.core k.run.state)
 
--- ---- a turn of the scrubber, and one of no master
-
-abbrev pub made_by_scrubber : List Word → ℕ → Walk → Made
-made_by_scrubber words turn w = record { transfer = answered words (next_transfer turn w w.noted); need = NoTurn; entry = None; named = None }
+-- ---- a turn that nobody needs: one of no master, or of the scrubber with no turn left
 
 abbrev pub made_by_none : Transfer → Made
 made_by_none t = record { transfer = record t { addr = 0; way = 0; words = 0; syn = 0; len = 0 }; need = NoTurn; entry = None; named = None }
+
+-- ---- a turn of the scrubber
+
+abbrev pub made_by_walk : List Word → Transfer → Made
+made_by_walk words t = record { transfer = answered words t; need = Turn t.kind t.why; entry = None; named = None }
+
+-- the next transfer of its walk, while it has turns left
+abbrev pub made_by_scrubber : ℕ → List Word → ℕ → Walk → Transfer → Made
+made_by_scrubber scrub_turns words turn w t = if nat_lt w.turns scrub_turns then made_by_walk words (next_transfer turn w w.noted) else made_by_none t
+
+-- ---- a turn of a core, or of no master
 
 abbrev pub made_by_master : List Word → Transfer → Option Core → Made
 made_by_master words t None = made_by_none t
@@ -97,8 +105,8 @@ made_by_master words t (Some c) = made_by_core words t c
 -- ---- a turn
 
 -- the turn that a transfer reports, with these words as it begins
-unfoldable pub made_turn : Replay → List Word → Transfer → Made
-made_turn r words t = if t.master == scrubber then made_by_scrubber words r.turns r.walk
+unfoldable pub made_turn : Setup → Replay → List Word → Transfer → Made
+made_turn setup r words t = if t.master == scrubber then made_by_scrubber setup.config.scrub_turns words r.turns r.walk t
     else made_by_master words (record t { turn = r.turns }) (slice_get r.cores t.master)
 
 abbrev pub core_after : Transfer → Core → Core
@@ -117,7 +125,7 @@ replayed setup r words made = record {
 unfoldable pub replay_turn : Setup → Replay → Transfer → Replay
 replay_turn setup r t =
     let words = words_begun setup.flips r.turns r.words in
-    let made = made_turn r words t in
+    let made = made_turn setup r words t in
     replayed setup r words made
 
 abbrev pub core_finished : Core → Core

@@ -22,9 +22,9 @@ use Rattle.lf_model.specs.declared.bus.Why.TheVariants.{Flush}
 -- ---- what an instruction that retires does to the arrays
 
 -- a store updates the data cache
-abbrev pub update_by : Option Access → Arrays → Arrays
-update_by None a = a
-update_by (Some x) a = if is_store_kind x.kind then record a { data_cache = updated x.addr x.len a.data_cache } else a
+abbrev pub store_by : Option Access → Arrays → Arrays
+store_by None a = a
+store_by (Some x) a = if is_store_kind x.kind then record a { data_cache = updated x.addr x.len a.data_cache } else a
 
 -- FLUSH empties both caches
 abbrev pub flush_by : Option Why → Arrays → Arrays
@@ -33,7 +33,7 @@ flush_by (Some why) a = if same_why why Flush then record a { fetch_cache = flus
 
 -- then the register cells are written
 abbrev pub retired_arrays : Effect → Arrays → Arrays
-retired_arrays e a = write_cells e.writes (flush_by e.barrier (update_by e.access a))
+retired_arrays e a = write_cells e.writes (flush_by e.barrier (store_by e.access a))
 
 -- ---- what a step that came to a stop does
 
@@ -74,7 +74,7 @@ register_errors a k (RegisterStop cell) = record {
   place = cell;
   syndrome = syndrome (history_at cell a.cells);
   steps = k.steps + 1;
-  turns = k.turns;
+  turns = None;
 } ∷ []
 register_errors a k NoTurn = []
 register_errors a k (Turn kind why) = []

@@ -13,19 +13,20 @@ pub record Completion : Type 0 where
   pub way : Option ℕ
   pub seen : ℕ
 
--- an error trap that was met: its type, the register cell or the turn, the syndrome, and how many steps and turns the core had
--- made then, with that one
+-- an error trap that was met: its type, the register cell or the turn, the syndrome, and how many steps the core had made then,
+-- with that one; of one that a turn met also how many turns, with that one
 pub record ErrorTrap : Type 0 where
   pub trap_type : ℕ
   pub place : ℕ
   pub syndrome : ℕ
   pub steps : ℕ
-  pub turns : ℕ
+  pub turns : Option ℕ
 
 -- steps and turns: how many it made; quiet: its steps since its last turn; retired: the instructions that it retired; run:
 -- its state and operations then; stored and drained: the stores that retired, and those that left the store buffer; unseen: the addresses
 -- at which others stored since its last turn; seen: the entries of the log up to that turn; completions: of its operations, in
--- program order; errors: those that it met; owed: its steps without a turn that needed one
+-- program order; errors: those that it met; owed: its steps without a
+-- turn that needed one
 pub record Progress : Type 0 where
   pub steps : ℕ
   pub turns : ℕ

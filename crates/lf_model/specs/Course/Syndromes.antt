@@ -5,7 +5,8 @@ use Rattle.lf_num.specs.Columns.{columns}
 use Rattle.lf_model.specs.TransferLines.{makes_entry}
 use Rattle.lf_model.specs.declared.bus.Transfer.{Transfer}
 
--- a word with this syndrome is bad: two of its bits are turned, and no single one explains it
+-- a word with this syndrome is bad: two of its bits are turned, and no single one explains it. Of a word with a history this is so
+-- exactly where `is_bad_word` holds of that: the lemma `bad_by_syndrome`.
 abbrev pub is_bad_syndrome : ℕ → Bool
 is_bad_syndrome syn = not (syn == 0) && not (list_any (λ column. column == syn) columns)
 

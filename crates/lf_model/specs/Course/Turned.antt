@@ -80,7 +80,7 @@ turn_trap Fix = 0
 abbrev pub turn_errors : Transfer → ℕ → ℕ → Option ℕ → List ErrorTrap
 turn_errors t steps turns None = []
 turn_errors t steps turns (Some j) =
-    record { trap_type = turn_trap t.kind; place = t.turn; syndrome = slice_index (syndromes_of t) j; steps = steps; turns = turns } ∷ []
+    record { trap_type = turn_trap t.kind; place = t.turn; syndrome = slice_index (syndromes_of t) j; steps = steps; turns = Some turns } ∷ []
 
 -- ---- the turn
 

@@ -1,5 +1,5 @@
 -- The account of a trace: that which its masters give, and that which it reports. They have to be the same.
-use Rattle.std.specs.Prelude.{ℕ, ◌==◌, Bool, List, map, count_by, is_none, Option, option_map, slice_get, if◌then◌else◌}
+use Rattle.std.specs.Prelude.{ℕ, ◌==◌, Bool, List, map, count_by, is_none, Option, option_map, slice_get}
 use Rattle.std.specs.List.{enumerate_from, filter_map}
 use Rattle.lf_model.specs.Bus.Replay.{Core, LogEntry, Made, Replay, replay}
 use Rattle.lf_model.specs.Bus.Status.{AhbStatus, status_after}
@@ -8,7 +8,7 @@ use Rattle.lf_model.specs.Bus.Words.{Word, word_history}
 use Rattle.lf_model.specs.Course.Arrays.{Arrays}
 use Rattle.lf_model.specs.Course.Core.{Ground, given_by, ground_of}
 use Rattle.lf_model.specs.Course.Outcome.{Need}
-use Rattle.lf_model.specs.Course.Outcome.Need.{NoTurn, Turn}
+use Rattle.lf_model.specs.Course.Outcome.Need.{Turn}
 use Rattle.lf_model.specs.Course.Progress.{Completion}
 use Rattle.lf_model.specs.Execution.{program_order}
 use Rattle.lf_model.specs.Flips.{is_bad_word}
@@ -23,7 +23,7 @@ use Rattle.lf_model.specs.declared.trace.Op.{Op}
 use Rattle.lf_model.specs.declared.trace.Trace.{Trace}
 use Rattle.lf_model.specs.declared.trace.Word2.{Word2}
 
--- a transfer, and what the step that makes it needs
+-- a transfer, and what the step of a core, or the walk of the scrubber, needs
 pub record TurnAccount : Type 0 where
   pub transfer : Transfer
   pub need : Need
@@ -108,9 +108,9 @@ account_by_course setup trace = account_by_replay setup trace.order (replay_of s
 
 -- ---- as reported
 
--- the step of a core's transfer needed it
+-- the step of a core, or the walk of the scrubber, needed the transfer
 abbrev pub need_reported : Transfer → Need
-need_reported t = if t.master == scrubber then NoTurn else Turn t.kind t.why
+need_reported t = Turn t.kind t.why
 
 abbrev pub turn_reported : Transfer → TurnAccount
 turn_reported t = record { transfer = t; need = need_reported t }

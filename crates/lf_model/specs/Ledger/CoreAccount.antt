@@ -1,10 +1,10 @@
--- What there is to account for of one core: that no step owes a turn, the error traps that it met, its lost stores, its counters
--- of parity errors, and the registers without a value.
-use Rattle.std.specs.Prelude.{ℕ, ◌-◌, ◌==◌, ◌&&◌, not, Bool, List, [], ◌∷◌, length, map, filter, is_none, if◌then◌else◌}
+-- What there is to account for of one core: that it owes no turn, the error traps that it met, its lost stores, its counters of
+-- parity errors, and the registers without a value.
+use Rattle.std.specs.Prelude.{ℕ, ◌+◌, ◌-◌, ◌==◌, ◌&&◌, not, Bool, List, [], ◌∷◌, length, map, filter, is_none, Option, Some, None, if◌then◌else◌}
 use Rattle.std.specs.List.{range_with_len, zip}
 use Rattle.lf_model.specs.Caches.Slot.{history_at}
 use Rattle.lf_model.specs.Course.Arrays.{Arrays}
-use Rattle.lf_model.specs.Course.Core.{Ground, is_store, is_store_stop}
+use Rattle.lf_model.specs.Course.Core.{Ground, is_store, is_store_stop, is_register_stop}
 use Rattle.lf_model.specs.Course.Progress.{ErrorTrap, Progress}
 use Rattle.lf_model.specs.Flips.{Moment, is_bad_word}
 use Rattle.lf_model.specs.Ledger.Steps.{own_transfers}
@@ -17,8 +17,8 @@ use Rattle.lf_model.specs.declared.trace.CoreResult.{CoreResult}
 use Rattle.lf_model.specs.declared.trace.Four.{Four}
 use Rattle.lf_model.specs.declared.trace.Op.{Op}
 
--- owed: its steps without a turn that needed one; errors: the error traps that it met; lost: which of its stores, counted from
--- 0, never reached memory; blank: which of the 32 registers of its window have no value
+-- owed: the turns that it needed and didn't make; errors: the error traps that it met; lost: which of its stores, counted from 0,
+-- never reached memory; blank: which of the 32 registers of its window have no value
 pub record CoreAccount : Type 0 where
   pub owed : ℕ
   pub errors : List ErrorTrap
@@ -28,12 +28,13 @@ pub record CoreAccount : Type 0 where
 
 -- ---- by the course
 
--- the first of the stores that are lost, if one is: the first that waits, or, where an error trap met a store, that one
-abbrev pub first_lost : Ground → Progress → ℕ
-first_lost g k = if is_store_stop g.end then k.drained - 1 else k.drained
-
+-- where an error trap met a store, that one is lost, and so are those that wait behind it. No other end loses a store.
 abbrev pub stores_lost : Ground → Progress → List ℕ
-stores_lost g k = range_with_len (first_lost g k) (k.stored - first_lost g k)
+stores_lost g k = if is_store_stop g.end then range_with_len (k.drained - 1) (k.stored - (k.drained - 1)) else []
+
+-- the stores that still wait at the end and aren't lost: each of them owes its drain
+abbrev pub drains_owed : Ground → Progress → ℕ
+drains_owed g k = if is_store_stop g.end then 0 else k.stored - k.drained
 
 abbrev pub parity_errors : Arrays → Four
 parity_errors a = record {
@@ -53,7 +54,7 @@ blank_registers k = map (is_blank k.arrays.cells k.run.state.ctl.cwp) (range_wit
 -- of a core at its end
 abbrev pub core_by_course : Ground → Progress → CoreAccount
 core_by_course g k = record {
-  owed = k.owed;
+  owed = k.owed + drains_owed g k;
   errors = k.errors;
   lost = stores_lost g k;
   parity = parity_errors k.arrays;
@@ -62,9 +63,19 @@ core_by_course g k = record {
 
 -- ---- as reported
 
--- the error trap that an end names, which comes with the last of these steps and turns
+-- with which of these turns an error trap of this end comes: the last one, or none where it is by a register cell
+abbrev pub turns_reported : CoreEnd → ℕ → Option ℕ
+turns_reported end turns = if is_register_stop end then None else Some turns
+
+-- the error trap that an end names, which comes with the last of these steps and, if it is at a turn, with the last of these turns
 abbrev pub errors_reported : CoreEnd → ℕ → ℕ → List ErrorTrap
-errors_reported (Stop tt_ place syn) steps turns = record { trap_type = tt_; place = place; syndrome = syn; steps = steps; turns = turns } ∷ []
+errors_reported (Stop tt_ place syn) steps turns = record {
+  trap_type = tt_;
+  place = place;
+  syndrome = syn;
+  steps = steps;
+  turns = turns_reported (Stop tt_ place syn) turns;
+} ∷ []
 errors_reported (Halt tt_) steps turns = []
 errors_reported Limit steps turns = []
 

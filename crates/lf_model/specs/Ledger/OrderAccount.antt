@@ -47,8 +47,8 @@ along account b (o ∷ later) = account b o later ∷ along account (after_kind 
 
 -- ---- by the course
 
-abbrev pub entry_made : List LogEntry → Before → Op → Option LogEntry
-entry_made log b o = if enters o then slice_get log b.entries else None
+abbrev pub entry_in_log : List LogEntry → Before → Op → Option LogEntry
+entry_in_log log b o = if enters o then slice_get log b.entries else None
 
 -- the completion of operation k of a core, by those of each core
 abbrev pub completion_of : List (List Completion) → ℕ → ℕ → Option Completion
@@ -56,7 +56,7 @@ completion_of cores core k = option_and_then (λ completions. slice_get completi
 
 abbrev pub place_by_course : List LogEntry → List (List Completion) → Before → Op → List Op → OrderAccount
 place_by_course log cores b o later = record {
-  entry = entry_made log b o;
+  entry = entry_in_log log b o;
   retired = option_map (shown o.kind) (completion_of cores o.core o.k);
   sorted = true;
 }

@@ -12,7 +12,9 @@ use Rattle.lf_model.specs.declared.trace.Trace.{Trace}
 abbrev pub StepsAt : Setup → Trace → ℕ → Type 0
 StepsAt setup trace c = IfSome (slice_get trace.cores c) (λ r. HasSteps setup r (own_transfers c trace.transfers))
 
--- the ledger of a trace: the steps of all cores, and then all that it reports is what its masters give
+-- the ledger of a trace: the steps of all cores, and then all that it reports is what its masters give. Where the rule Once holds,
+-- this is `LedgerFailsFirst setup trace None`. Without it the two may differ, since that goes over the places of the setup's cores
+-- and of the trace's lists, and doesn't see that a list has another length.
 pub record KeepsLedger (setup : Setup) (trace : Trace) : Type 0 where
   pub steps : FailsNowhere setup.config.cores (StepsAt setup trace)
   pub same : account_by_course setup trace ≡ account_as_reported trace

@@ -33,7 +33,7 @@ same_list same (x ∷ xs) [] = false
 same_list same (x ∷ xs) (y ∷ ys) = same x y && same_list same xs ys
 
 abbrev pub same_error : ErrorTrap → ErrorTrap → Bool
-same_error a b = a.trap_type == b.trap_type && (a.place == b.place && (a.syndrome == b.syndrome && (a.steps == b.steps && a.turns == b.turns)))
+same_error a b = a.trap_type == b.trap_type && (a.place == b.place && (a.syndrome == b.syndrome && (a.steps == b.steps && same_option same_number a.turns b.turns)))
 
 abbrev pub same_parity : Four → Four → Bool
 same_parity a b = a.fetch_tag == b.fetch_tag && (a.fetch_byte == b.fetch_byte && (a.data_tag == b.data_tag && a.data_byte == b.data_byte))

@@ -6,7 +6,7 @@ use Rattle.lf_model.specs.Course.Core.{is_store}
 use Rattle.lf_model.specs.Execution.{program_order}
 use Rattle.lf_model.specs.Ledger.Account.{map_numbered}
 use Rattle.lf_model.specs.Ledger.Steps.{own_transfers}
-use Rattle.lf_model.specs.Promise.Turns.{CoreLeft, Actors, TurnMade, turn_reported, event_made}
+use Rattle.lf_model.specs.Promise.Turns.{CoreLeft, Actors, TurnMade, turn_of_transfer, event_made}
 use Rattle.lf_model.specs.declared.setup.Actor.TheVariants.{Core, Scrub}
 use Rattle.lf_model.specs.declared.setup.Event.{Event}
 use Rattle.lf_model.specs.declared.setup.Setup.{Setup}
@@ -49,7 +49,9 @@ rounds (suc n) a = rounds n (round a)
 abbrev pub steps_of : CoreResult → ℕ
 steps_of r = r.steps
 
--- so many rounds are enough: in each, one step more or one transfer more is made, until all have ended
+-- so many rounds are enough: in each, every actor that has not ended makes a step, a last drain or a turn, and these are no more
+-- than the steps of all cores and all transfers. In rounds that are left over nothing is made. If the trace has fewer transfers than
+-- the scrubber has turns, that shows in the turns that are given.
 abbrev pub rounds_enough : Trace → ℕ
 rounds_enough trace = sum (map steps_of trace.cores) + length trace.transfers + 1
 
@@ -58,4 +60,4 @@ unfoldable pub turns_of : Setup → List Event → Trace → List TurnMade
 turns_of setup events trace = (rounds (rounds_enough trace) (fold scheduled (actors_at_start setup trace) events)).turns
 
 pub record Follows (setup : Setup) (events : List Event) (trace : Trace) : Type 0 where
-  pub turns : turns_of setup events trace ≡ map turn_reported trace.transfers
+  pub turns : turns_of setup events trace ≡ map turn_of_transfer trace.transfers

@@ -17,8 +17,8 @@ use Rattle.lf_model.specs.declared.trace.CoreResult.{CoreResult}
 use Rattle.lf_model.specs.declared.trace.Trace.{Trace}
 use Rattle.lf_model.specs.declared.trace.Word2.{Word2}
 
--- the error traps that a core met are just the one that its end names, with its type, its place and its syndrome, and it came
--- with the core's last step and its last transfer
+-- the error traps that a core met are just the one that its end names, with its type, its place and its syndrome; it came with
+-- the core's last step and, unless a register cell gave it, with its last transfer
 pub record HasStopCause (c : ℕ) (trace : Trace) (r : CoreResult) (k : Core) : Type 0 where
   pub met : k.progress.errors ≡ errors_reported r.end r.steps (length (own_transfers c trace.transfers))
 

@@ -39,7 +39,7 @@ is_regular_core r = end_fits r.end && (fits_word r.n && (fits_word r.steps && (l
 
 -- ---- operations
 
--- the number fits the bytes of the operation, or is none
+-- the number fits the bytes of the operation
 abbrev pub number_fits : ℕ → ℕ → Bool
 number_fits len n = nat_lt n (256 ^ len)
 

@@ -16,8 +16,8 @@ pub record TurnMade : Type 0 where
   pub scheduled : Bool
 
 -- the turn that a transfer reports
-abbrev pub turn_reported : Transfer → TurnMade
-turn_reported t = record { master = t.master; scheduled = same_why t.why Sched }
+abbrev pub turn_of_transfer : Transfer → TurnMade
+turn_of_transfer t = record { master = t.master; scheduled = same_why t.why Sched }
 
 -- a core on its way: all its steps, the steps in which its stores retire, the steps that it made, the stores that it drained,
 -- and the transfers that it has yet to make
@@ -73,22 +73,22 @@ pub record Moved : Type 0 where
   pub core : CoreLeft
   pub turn : Option TurnMade
 
-abbrev pub turn_of : ℕ → Bool → Option TurnMade
-turn_of master scheduled = Some (record { master = master; scheduled = scheduled })
+abbrev pub turn_by : ℕ → Bool → Option TurnMade
+turn_by master scheduled = Some (record { master = master; scheduled = scheduled })
 
 -- its next step, or the next drain after its last one
 abbrev pub core_moved : ℕ → CoreLeft → Moved
 core_moved n c = if has_ended c then record { core = c; turn = None }
     else if nat_lt c.made c.steps
-    then record { core = with_step c; turn = if turns_in c.made c.transfers then turn_of n false else None }
-    else record { core = with_turn c; turn = turn_of n false }
+    then record { core = with_step c; turn = if turns_in c.made c.transfers then turn_by n false else None }
+    else record { core = with_turn c; turn = turn_by n false }
 
 -- the drain of a waiting store, in its next step or after its last one
 abbrev pub drain_moved : ℕ → CoreLeft → Moved
 drain_moved n c = if has_ended c then record { core = c; turn = None }
     else if not (waits c) then record { core = c; turn = None }
-    else if nat_lt c.made c.steps then record { core = with_step c; turn = turn_of n true }
-    else record { core = with_turn c; turn = turn_of n false }
+    else if nat_lt c.made c.steps then record { core = with_step c; turn = turn_by n true }
+    else record { core = with_turn c; turn = turn_by n false }
 
 -- ---- all actors
 

@@ -1,6 +1,11 @@
--- The memory words over the transfers that the bus records: what each transfer read, and the words at the end.
-use Rattle.std.specs.Prelude.{ℕ, ◌+◌, ◌==◌, ◌++◌, Bool, false, List, [], ◌∷◌, find, fold, Option, Some, None, option_map}
-use Rattle.lf_model.specs.Bus.Words.{Word, words_struck, words_begun, answered, words_after}
+-- The memory words over the transfers that the bus records: what each transfer read by its kind, its address and its length, and
+-- the words at the end.
+use Rattle.std.specs.Prelude.{ℕ, ◌+◌, ◌==◌, ◌&&◌, ◌++◌, Bool, false, List, [], ◌∷◌, length, map, fold, Option, Some, None, if◌then◌else◌}
+use Rattle.std.specs.List.{list_any}
+use Rattle.lf_model.specs.Bus.Words.{Word, word_history, words_struck, words_begun, words_by_kind, words_after}
+use Rattle.lf_model.specs.Course.Syndromes.{packed}
+use Rattle.lf_model.specs.Flips.{syndrome}
+use Rattle.lf_model.specs.Flips.Moment.{Named}
 use Rattle.lf_model.specs.declared.bus.Transfer.{Transfer}
 use Rattle.lf_model.specs.declared.flip.Flip.{Flip}
 use Rattle.lf_model.specs.declared.trace.Word2.{Word2}
@@ -14,16 +19,38 @@ pub record Memory : Type 0 where
 abbrev pub memory_start : List Flip → Memory
 memory_start script = record { words = words_struck script; turns = 0; answers = [] }
 
+-- ---- what memory answers
+
+abbrev pub words_asked : Transfer → List ℕ
+words_asked t = words_by_kind t.addr t.len t.kind
+
+abbrev pub with_answer : List Word → Transfer → Transfer
+with_answer words t = record t {
+  words = length (words_asked t);
+  syn = packed (map (λ addr. syndrome (word_history words addr)) (words_asked t));
+}
+
+-- ---- words that error traps name, with the numbers of their transfers
+
 abbrev pub is_turn : ℕ → Option ℕ → Bool
 is_turn turn None = false
 is_turn turn (Some n) = n == turn
 
--- the word that an error trap names at this turn, of words with the numbers of their transfers
-abbrev pub name_at : List Word2 → ℕ → Option ℕ
-name_at named turn = option_map (λ (w : Word2). w.addr) (find (λ (w : Word2). is_turn turn w.value) named)
+-- an error trap names the word at this address at this turn
+abbrev pub names_word : List Word2 → ℕ → ℕ → Bool
+names_word named turn addr = list_any (λ (w : Word2). w.addr == addr && is_turn turn w.value) named
+
+abbrev pub with_names : List Word2 → ℕ → Word → Word
+with_names named turn word = if names_word named turn word.addr then record word { history = Named ∷ word.history } else word
+
+-- ---- memory over the transfers
 
 abbrev pub memory_by : List Word2 → Memory → List Word → Transfer → Memory
-memory_by named m words t = record { words = words_after t (name_at named m.turns) words; turns = m.turns + 1; answers = m.answers ++ answered words t ∷ [] }
+memory_by named m words t = record {
+  words = map (with_names named m.turns) (words_after t None words);
+  turns = m.turns + 1;
+  answers = m.answers ++ with_answer words t ∷ [];
+}
 
 abbrev pub memory_turn : List Flip → List Word2 → Memory → Transfer → Memory
 memory_turn script named m t = memory_by named m (words_begun script m.turns m.words) t

@@ -1,8 +1,8 @@
--- The transfers of a core as the bus records them: each has the kind and cause that its step needed, and the address, the way
--- and the length that the core gave it.
-use Rattle.std.specs.Prelude.{ℕ, ◌≡◌, ◌+◌, ◌*◌, ◌==◌, ◌&&◌, List, [], take, Option, Some, None, option_map, slice_get, IfSome, if◌then◌else◌}
+-- The transfers of a core as the bus records them: each has the kind and cause that its step needed, the address, the way and the
+-- length that the core gave it, and as many words as memory reads for that. Their syndromes are for the record of the bus to say.
+use Rattle.std.specs.Prelude.{ℕ, ◌≡◌, ◌+◌, ◌*◌, ◌==◌, ◌&&◌, List, [], length, take, Option, Some, None, option_map, slice_get, IfSome, if◌then◌else◌}
 use Rattle.std.specs.Option.{option_to_list}
-use Rattle.lf_model.specs.Bus.Words.{word_of}
+use Rattle.lf_model.specs.Bus.Words.{word_of, words_read}
 use Rattle.lf_model.specs.Course.Core.{Ground, is_stop_at}
 use Rattle.lf_model.specs.Course.Course.{up_to, course}
 use Rattle.lf_model.specs.Course.Outcome.Need.{Turn}
@@ -23,10 +23,14 @@ before_turn g transfers turn t = up_to g t (course g (take turn transfers))
 abbrev pub next_effect : Ground → Progress → Effect
 next_effect g k = effect_at_pc g.setup g.core k.run.state
 
+-- a transfer with the number of words that memory reads for it
+abbrev pub with_word_count : Transfer → Transfer
+with_word_count t = record t { words = length (words_read t) }
+
 -- a transfer of a core that has come so far
 pub record IsRightTurn (g : Ground) (t : Transfer) (k : Progress) : Type 0 where
   pub needed : turn_needs g t.why (turn_attempt g t.why (next_effect g k) k) k ≡ Turn t.kind t.why
-  pub placed : record (addressed g (next_effect g k) k t) { words = t.words; syn = t.syn } ≡ t
+  pub placed : record (with_word_count (addressed g (next_effect g k) k t)) { syn = t.syn } ≡ t
 
 -- the transfer at this turn, if it is the core's
 abbrev pub OwnTurnAt : Ground → List Transfer → ℕ → Type 0
