@@ -1,0 +1,12 @@
+//! AHBSTAT, the AHB failing address and status registers (GRLIB, AHBSTAT): the first word that was read not clean since the
+//! registers were cleared. No call takes memory.
+#![tactic(auto)]
+
+mod note;
+mod size;
+mod status;
+#[cfg(test)]
+mod tests;
+
+pub use size::Size;
+pub use status::Status;
