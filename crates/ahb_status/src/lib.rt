@@ -5,8 +5,6 @@
 mod note;
 mod size;
 mod status;
-#[cfg(test)]
-mod tests;
 
 pub use size::Size;
 pub use status::Status;

@@ -1,4 +1,5 @@
-use crate::{Size, Status};
+use super::expect;
+use ahb_status::{Size, Status};
 
 /// An error: the word's address, the length of the access in bytes, the master, whether it wrote, and whether the word was
 /// corrected; and the status word with it, by GRLIB's table of its fields.
@@ -57,21 +58,21 @@ fn status_words(rt: HostRuntime) {
         assert!(rt; master < 9);
         let mut status = Status::new();
         status.note(addr, Size::of_length(len), master, write, fixable);
-        assert_eq!(rt; status.read(), (addr, row.status), "status {}", row.status);
+        expect(&rt, row.status, status.read() == (addr, row.status));
     }
 }
 
 #[test]
 fn first_error_stays_until_it_is_cleared(rt: HostRuntime) {
     let mut status = Status::new();
-    assert_eq!(rt; status.read(), (0, 0));
+    assert!(rt; status.read() == (0, 0));
     status.note(0x4000_1004, Size::Word, 0, false, true);
     status.note(0x4000_1000, Size::Byte, 1, true, false);
-    assert_eq!(rt; status.read(), (0x4000_1004, 0x302));
+    assert!(rt; status.read() == (0x4000_1004, 0x302));
     status.cleared(0x4000_1000);
-    assert_eq!(rt; status.read(), (0x4000_1004, 0x302));
+    assert!(rt; status.read() == (0x4000_1004, 0x302));
     status.cleared(0x4000_1004);
-    assert_eq!(rt; status.read(), (0, 0));
+    assert!(rt; status.read() == (0, 0));
     status.note(0x4000_1000, Size::Byte, 1, true, false);
-    assert_eq!(rt; status.read(), (0x4000_1000, 0x188));
+    assert!(rt; status.read() == (0x4000_1000, 0x188));
 }
