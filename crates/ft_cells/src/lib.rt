@@ -9,8 +9,6 @@ mod byte9;
 mod cell;
 mod flipped;
 mod protect;
-#[cfg(test)]
-mod tests;
 mod word39;
 
 pub use byte9::Byte9;

@@ -31,28 +31,3 @@ pub fn get9(c: u16) -> Option<u8>
         None
     }
 }
-
-#[cfg(test)]
-mod tests {
-    use super::*;
-
-    #[test]
-    fn bytes_and_turned_bits(rt: HostRuntime) {
-        // A byte, its nine bits, and those with a bit turned.
-        let bytes = [
-            (0x00, 0x000, 0x001),
-            (0x01, 0x101, 0x001),
-            (0x03, 0x003, 0x103),
-            (0x5a, 0x05a, 0x04a),
-            (0x80, 0x180, 0x100),
-            (0xfe, 0x1fe, 0x1ff),
-            (0xff, 0x0ff, 0x07f),
-        ];
-        for (byte, bits, turned) in bytes {
-            assert_eq!(rt; put9(byte), bits, "bits of {byte}");
-            assert!(rt; bits < 512 && turned < 512);
-            assert_eq!(rt; get9(bits), Some(byte), "byte of {bits}");
-            assert_eq!(rt; get9(turned), None, "byte of {turned}");
-        }
-    }
-}

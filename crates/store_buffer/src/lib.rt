@@ -3,7 +3,5 @@
 
 mod buffer;
 mod place;
-#[cfg(test)]
-mod tests;
 
 pub use buffer::Buffer;

@@ -123,6 +123,3 @@ pub fn alu(op: AluOp, a: u32, b: u32, carry: bool) -> AluOut
         AluOp::Sra => shifted(shifted_with_sign(a, b)),
     }
 }
-
-#[cfg(test)]
-mod tests;

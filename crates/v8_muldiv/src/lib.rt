@@ -241,6 +241,3 @@ pub fn tagged(sub: bool, a: u32, b: u32) -> AluOut
         tagged_sum(a, b)
     }
 }
-
-#[cfg(test)]
-mod tests;

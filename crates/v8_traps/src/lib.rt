@@ -139,6 +139,3 @@ pub fn enter(ctl: &mut Ctl, tt: u8) -> Entered
     ctl.npc = handler + 4;
     answer
 }
-
-#[cfg(test)]
-mod tests;

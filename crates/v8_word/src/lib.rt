@@ -8,8 +8,6 @@ ghost use Rattle.lf_model.specs.Instructions.{registers_fit, registers_read, sto
 mod decoder;
 mod fields;
 mod registers;
-#[cfg(test)]
-mod tests;
 
 pub use decoder::{decode, takes_rd};
 pub use lf_model::instruction::{CalcName, Instr, MemName, Src, StateName};

@@ -1,7 +1,9 @@
-use super::*;
+use super::expect;
+use v8_alu::AluOut;
+use v8_muldiv::{DivOut, MulOut, div, mul, mulscc, multiply_by_steps, tagged};
 
 /// Of UMUL the factors; the product's low word, its high word and icc.
-const UNSIGNED_PRODUCTS: [(u32, u32, u32, u32, u8); 13] = [
+static UNSIGNED_PRODUCTS: [(u32, u32, u32, u32, u8); 13] = [
     (0x0000_0000, 0x7fff_ffff, 0x0000_0000, 0x0000_0000, 0b0100),
     (0x0000_0000, 0x8000_0000, 0x0000_0000, 0x0000_0000, 0b0100),
     (0x0000_0000, 0xffff_ffff, 0x0000_0000, 0x0000_0000, 0b0100),
@@ -18,7 +20,7 @@ const UNSIGNED_PRODUCTS: [(u32, u32, u32, u32, u8); 13] = [
 ];
 
 /// Of SMUL the factors; the product's low word, its high word and icc.
-const SIGNED_PRODUCTS: [(u32, u32, u32, u32, u8); 13] = [
+static SIGNED_PRODUCTS: [(u32, u32, u32, u32, u8); 13] = [
     (0x0000_0000, 0x7fff_ffff, 0x0000_0000, 0x0000_0000, 0b0100),
     (0x0000_0000, 0x8000_0000, 0x0000_0000, 0x0000_0000, 0b0100),
     (0x0000_0000, 0xffff_ffff, 0x0000_0000, 0x0000_0000, 0b0100),
@@ -35,7 +37,7 @@ const SIGNED_PRODUCTS: [(u32, u32, u32, u32, u8); 13] = [
 ];
 
 /// Of UDIV the word in Y, the first operand and the divisor; the quotient and icc.
-const UNSIGNED_QUOTIENTS: [(u32, u32, u32, u32, u8); 8] = [
+static UNSIGNED_QUOTIENTS: [(u32, u32, u32, u32, u8); 8] = [
     (0x0000_0001, 0x0000_0000, 0x0000_0001, 0xffff_ffff, 0b1010),
     (0x0000_0000, 0x0000_0007, 0x0000_0002, 0x0000_0003, 0b0000),
     (0x0000_0000, 0xffff_ffff, 0x0000_0001, 0xffff_ffff, 0b1000),
@@ -47,7 +49,7 @@ const UNSIGNED_QUOTIENTS: [(u32, u32, u32, u32, u8); 8] = [
 ];
 
 /// Of SDIV the word in Y, the first operand and the divisor; the quotient and icc.
-const SIGNED_QUOTIENTS: [(u32, u32, u32, u32, u8); 16] = [
+static SIGNED_QUOTIENTS: [(u32, u32, u32, u32, u8); 16] = [
     (0xffff_ffff, 0x8000_0000, 0xffff_ffff, 0x7fff_ffff, 0b0010),
     (0x0000_0000, 0x0000_0007, 0xffff_fffe, 0xffff_fffd, 0b1000),
     (0xffff_ffff, 0xffff_fff9, 0x0000_0002, 0xffff_fffd, 0b1000),
@@ -67,7 +69,7 @@ const SIGNED_QUOTIENTS: [(u32, u32, u32, u32, u8); 16] = [
 ];
 
 /// Of MULScc the operands, icc and Y; the result, the new Y and the new icc.
-const MULTIPLY_STEPS: [((u32, u32, u8, u32), (u32, u32, u8)); 12] = [
+static MULTIPLY_STEPS: [((u32, u32, u8, u32), (u32, u32, u8)); 12] = [
     (
         (0x0000_0000, 0x0000_0005, 0b0000, 0x0000_0001),
         (0x0000_0005, 0x0000_0000, 0b0000),
@@ -119,7 +121,7 @@ const MULTIPLY_STEPS: [((u32, u32, u8, u32), (u32, u32, u8)); 12] = [
 ];
 
 /// Y and the second operand of the steps; the product's high word, its low word and icc.
-const PRODUCTS_BY_STEPS: [(u32, u32, u32, u32, u8); 6] = [
+static PRODUCTS_BY_STEPS: [(u32, u32, u32, u32, u8); 6] = [
     (0x0000_0003, 0x0000_0005, 0x0000_0000, 0x0000_000f, 0b0100),
     (0xffff_ffff, 0xffff_ffff, 0xffff_ffff, 0x0000_0001, 0b1000),
     (0x8000_0000, 0x8000_0000, 0xc000_0000, 0x0000_0000, 0b1000),
@@ -129,7 +131,7 @@ const PRODUCTS_BY_STEPS: [(u32, u32, u32, u32, u8); 6] = [
 ];
 
 /// TSUBcc or TADDcc, and the operands; the result and icc.
-const TAGGED: [(bool, u32, u32, u32, u8); 20] = [
+static TAGGED: [(bool, u32, u32, u32, u8); 20] = [
     (false, 0x0000_0004, 0x0000_0008, 0x0000_000c, 0b0000),
     (false, 0x0000_0005, 0x0000_0008, 0x0000_000d, 0b0010),
     (false, 0x0000_0004, 0x0000_000a, 0x0000_000e, 0b0010),
@@ -153,39 +155,67 @@ const TAGGED: [(bool, u32, u32, u32, u8); 20] = [
 ];
 
 #[test]
-fn edges(rt: HostRuntime) {
-    for (a, b, value, y, icc) in UNSIGNED_PRODUCTS {
-        assert_eq!(rt; mul(false, a, b), MulOut { value, y, icc });
+fn unsigned_products(rt: HostRuntime) {
+    for &(a, b, value, y, icc) in &UNSIGNED_PRODUCTS {
+        expect(&rt, a, mul(false, a, b) == MulOut { value, y, icc });
     }
-    for (a, b, value, y, icc) in SIGNED_PRODUCTS {
-        assert_eq!(rt; mul(true, a, b), MulOut { value, y, icc });
+}
+
+#[test]
+fn signed_products(rt: HostRuntime) {
+    for &(a, b, value, y, icc) in &SIGNED_PRODUCTS {
+        expect(&rt, a, mul(true, a, b) == MulOut { value, y, icc });
     }
-    for (y, a, b, value, icc) in UNSIGNED_QUOTIENTS {
-        assert_eq!(rt; div(false, y, a, b), Some(DivOut { value, icc }));
+}
+
+#[test]
+fn unsigned_quotients(rt: HostRuntime) {
+    for &(y, a, b, value, icc) in &UNSIGNED_QUOTIENTS {
+        expect(&rt, a, div(false, y, a, b) == Some(DivOut { value, icc }));
     }
-    for (y, a, b, value, icc) in SIGNED_QUOTIENTS {
-        assert_eq!(rt; div(true, y, a, b), Some(DivOut { value, icc }));
+}
+
+#[test]
+fn signed_quotients(rt: HostRuntime) {
+    for &(y, a, b, value, icc) in &SIGNED_QUOTIENTS {
+        expect(&rt, a, div(true, y, a, b) == Some(DivOut { value, icc }));
     }
+}
+
+#[test]
+fn divisors_of_0(rt: HostRuntime) {
     for signed in [false, true] {
-        assert_eq!(rt; div(signed, 5, 5, 0), None);
+        expect(&rt, 0, div(signed, 5, 5, 0).is_none());
     }
-    for ((a, b, icc, y), (value, new_y, new_icc)) in MULTIPLY_STEPS {
+}
+
+#[test]
+fn multiply_steps(rt: HostRuntime) {
+    for &((a, b, icc, y), (value, new_y, new_icc)) in &MULTIPLY_STEPS {
         let expected = MulOut {
             value,
             y: new_y,
             icc: new_icc,
         };
-        assert_eq!(rt; mulscc(a, b, icc, y), expected);
+        expect(&rt, a, mulscc(a, b, icc, y) == expected);
     }
-    for (y, b, value, new_y, icc) in PRODUCTS_BY_STEPS {
+}
+
+#[test]
+fn products_by_steps(rt: HostRuntime) {
+    for &(y, b, value, new_y, icc) in &PRODUCTS_BY_STEPS {
         let expected = MulOut {
             value,
             y: new_y,
             icc,
         };
-        assert_eq!(rt; multiply_by_steps(y, b), expected);
+        expect(&rt, y, multiply_by_steps(y, b) == expected);
     }
-    for (sub, a, b, value, icc) in TAGGED {
-        assert_eq!(rt; tagged(sub, a, b), AluOut { value, icc });
+}
+
+#[test]
+fn tagged_sums_and_differences(rt: HostRuntime) {
+    for &(sub, a, b, value, icc) in &TAGGED {
+        expect(&rt, a, tagged(sub, a, b) == AluOut { value, icc });
     }
 }

@@ -1,10 +1,11 @@
-ghost use Rattle.std.specs.Prelude.{◌<◌};
+ghost use Rattle.std.specs.Prelude.{◌≡◌, ◌<◌};
 
-use super::*;
+use super::expect;
 use Trap::{Access, Align, CpOff, Fetch, FpOff, Illegal, Over, Privileged, Tag, Ticc, Under, Zero};
+use v8_traps::{Checks, Ctl, Entered, enter, first_trap};
 
 /// One of the traps of `Checks`.
-#[derive(Clone, Copy, Debug)]
+#[derive(Clone, Copy)]
 enum Trap {
     Fetch,
     Privileged,
@@ -44,7 +45,7 @@ fn and(c: Checks, trap: Trap) -> Checks {
 }
 
 /// A trap, one that it comes before, and its trap type.
-const ORDER: [(Trap, Trap, u8); 15] = [
+static ORDER: [(Trap, Trap, u8); 15] = [
     (Fetch, Privileged, 0x01),
     (Privileged, Illegal, 0x03),
     (Illegal, FpOff, 0x02),
@@ -65,17 +66,20 @@ const ORDER: [(Trap, Trap, u8); 15] = [
 #[test]
 fn first_traps(rt: HostRuntime) {
     let none = Checks::default();
-    assert_eq!(rt; first_trap(&none), None);
-    for (trap, other, tt) in ORDER {
+    assert!(rt; first_trap(&none).is_none());
+    for &(trap, other, tt) in &ORDER {
         let alone = and(none, trap);
-        assert_eq!(rt; first_trap(&alone), Some(tt), "{trap:?} alone");
-        let both = and(alone, other);
-        assert_eq!(rt; first_trap(&both), Some(tt), "{trap:?} and {other:?}");
+        expect(&rt, u32::from(tt), first_trap(&alone) == Some(tt));
+        expect(
+            &rt,
+            u32::from(tt),
+            first_trap(&and(alone, other)) == Some(tt),
+        );
     }
 }
 
 /// S, CWP, TBR, PC and nPC before entry, and the trap type; PSR, CWP and TBR after it.
-const ENTRIES: [(bool, u8, u32, u32, u32, u8, u32, u8, u32); 4] = [
+static ENTRIES: [(bool, u8, u32, u32, u32, u8, u32, u8, u32); 4] = [
     (
         true,
         0,
@@ -122,6 +126,25 @@ const ENTRIES: [(bool, u8, u32, u32, u32, u8, u32, u8, u32); 4] = [
     ),
 ];
 
+/// The state at entry, with traps enabled.
+fn state(s: bool, cwp: u8, tbr: u32, pc: u32, npc: u32) -> Ctl
+    ensures codes { result.icc < 16 }
+    ensures level { result.pil < 16 }
+    ensures window { result.cwp ≡ cwp }
+{
+    Ctl {
+        icc: 0b1010,
+        pil: 5,
+        s,
+        ps: !s,
+        et: true,
+        cwp,
+        tbr,
+        pc,
+        npc,
+    }
+}
+
 /// PSR, TBR, PC and nPC.
 fn registers(ctl: &Ctl) -> (u32, u32, u32, u32)
     requires codes { ctl.now.icc < 16 }
@@ -133,28 +156,24 @@ fn registers(ctl: &Ctl) -> (u32, u32, u32, u32)
 
 #[test]
 fn entries(rt: HostRuntime) {
-    for (s, cwp, tbr, pc, npc, tt, psr, window, handler) in ENTRIES {
+    for &(s, cwp, tbr, pc, npc, tt, psr, window, handler) in &ENTRIES {
         assert!(rt; cwp < 8);
-        let mut ctl = Ctl {
-            icc: 0b1010,
-            pil: 5,
-            s,
-            ps: !s,
-            et: true,
-            cwp,
-            tbr,
-            pc,
-            npc,
-        };
-        let mut disabled = Ctl { et: false, ..ctl };
-        assert_eq!(rt; enter(&mut ctl, tt), Entered::Vectored { window, pc, npc });
-        assert_eq!(rt;
-            registers(&ctl),
-            (psr, handler, handler, handler.wrapping_add(4))
-        );
-        // Traps disabled: nothing changes.
-        let before = registers(&disabled);
-        assert_eq!(rt; enter(&mut disabled, tt), Entered::ErrorMode);
-        assert_eq!(rt; registers(&disabled), before);
+        let mut ctl = state(s, cwp, tbr, pc, npc);
+        let entered = enter(&mut ctl, tt);
+        expect(&rt, psr, entered == Entered::Vectored { window, pc, npc });
+        let after = (psr, handler, handler, handler.wrapping_add(4));
+        expect(&rt, psr, registers(&ctl) == after);
+    }
+}
+
+#[test]
+fn nothing_changes_where_traps_are_disabled(rt: HostRuntime) {
+    for &(s, cwp, tbr, pc, npc, tt, ..) in &ENTRIES {
+        assert!(rt; cwp < 8);
+        let mut ctl = state(s, cwp, tbr, pc, npc);
+        ctl.et = false;
+        let before = registers(&ctl);
+        expect(&rt, tbr, enter(&mut ctl, tt) == Entered::ErrorMode);
+        expect(&rt, tbr, registers(&ctl) == before);
     }
 }

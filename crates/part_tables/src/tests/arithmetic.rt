@@ -1,8 +1,9 @@
-use super::AluOp::{Add, And, AndN, Or, OrN, Sll, Sra, Srl, Sub, XNor, Xor};
-use super::*;
+use super::expect;
+use v8_alu::AluOp::{Add, And, AndN, Or, OrN, Sll, Sra, Srl, Sub, XNor, Xor};
+use v8_alu::{AluOp, AluOut, alu};
 
 /// Of ADDX the operands and the carry; the result and icc.
-const SUMS: [(u32, u32, bool, u32, u8); 30] = [
+static SUMS: [(u32, u32, bool, u32, u8); 30] = [
     (0x0000_0000, 0x0000_0000, false, 0x0000_0000, 0b0100),
     (0x0000_0000, 0x0000_0001, false, 0x0000_0001, 0b0000),
     (0x0000_0000, 0x7fff_ffff, false, 0x7fff_ffff, 0b0000),
@@ -36,7 +37,7 @@ const SUMS: [(u32, u32, bool, u32, u8); 30] = [
 ];
 
 /// Of SUBX the operands and the carry; the result and icc.
-const DIFFERENCES: [(u32, u32, bool, u32, u8); 35] = [
+static DIFFERENCES: [(u32, u32, bool, u32, u8); 35] = [
     (0x0000_0000, 0x0000_0000, false, 0x0000_0000, 0b0100),
     (0x0000_0000, 0x7fff_ffff, false, 0x8000_0001, 0b1001),
     (0x0000_0000, 0x8000_0000, false, 0x8000_0000, 0b1011),
@@ -75,7 +76,7 @@ const DIFFERENCES: [(u32, u32, bool, u32, u8); 35] = [
 ];
 
 /// An operation that takes no carry in, and its operands; the result and icc.
-const OTHERS: [(AluOp, u32, u32, u32, u8); 35] = [
+static OTHERS: [(AluOp, u32, u32, u32, u8); 35] = [
     (Add, 0x7fff_ffff, 0x0000_0000, 0x7fff_ffff, 0b0000),
     (Add, 0x0000_0000, 0x0000_0000, 0x0000_0000, 0b0100),
     (Add, 0xffff_ffff, 0x0000_0001, 0x0000_0000, 0b0101),
@@ -114,25 +115,30 @@ const OTHERS: [(AluOp, u32, u32, u32, u8); 35] = [
 ];
 
 #[test]
-fn edges(rt: HostRuntime) {
-    for (a, b, carry, value, icc) in SUMS {
-        let expected = AluOut { value, icc };
-        assert_eq!(rt;
-            alu(AluOp::AddX, a, b, carry),
-            expected,
-            "sum of {a:x} and {b:x}"
+fn sums(rt: HostRuntime) {
+    for &(a, b, carry, value, icc) in &SUMS {
+        expect(
+            &rt,
+            a,
+            alu(AluOp::AddX, a, b, carry) == AluOut { value, icc },
         );
     }
-    for (a, b, carry, value, icc) in DIFFERENCES {
-        let expected = AluOut { value, icc };
-        assert_eq!(rt;
-            alu(AluOp::SubX, a, b, carry),
-            expected,
-            "difference of {a:x} and {b:x}"
+}
+
+#[test]
+fn differences(rt: HostRuntime) {
+    for &(a, b, carry, value, icc) in &DIFFERENCES {
+        expect(
+            &rt,
+            a,
+            alu(AluOp::SubX, a, b, carry) == AluOut { value, icc },
         );
     }
-    for (op, a, b, value, icc) in OTHERS {
-        let expected = AluOut { value, icc };
-        assert_eq!(rt; alu(op, a, b, true), expected, "{op:?} of {a:x} and {b:x}");
+}
+
+#[test]
+fn other_operations(rt: HostRuntime) {
+    for &(op, a, b, value, icc) in &OTHERS {
+        expect(&rt, a, alu(op, a, b, true) == AluOut { value, icc });
     }
 }

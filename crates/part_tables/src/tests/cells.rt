@@ -1,18 +1,15 @@
 ghost use Rattle.std.specs.Prelude.{◌<◌, All};
 
-use crate::byte9::Byte9;
-use crate::cell::Cell;
-use crate::flipped::Flipped;
-use crate::protect::Protect;
-use crate::word39::Word39;
+use super::expect;
 use edac_code::Read39;
+use ft_cells::{Byte9, Cell, Flipped, Protect, Word39};
 use std::process::Abort;
 
 /// Flips a bit of a cell that must take it.
 fn flip<P: Protect>(rt: &impl Abort, cell: &mut Cell<P>, bit: u8)
     requires { bit < P.BITS }
 {
-    assert_eq!(rt; cell.flip(bit), Flipped::Applied, "bit {bit}");
+    assert!(rt; cell.flip(bit) == Flipped::Applied);
     assert!(rt; cell.is_struck());
 }
 
@@ -39,31 +36,34 @@ fn words_under_the_code(rt: HostRuntime) {
         (0xffff_ffff, &[38, 38], Read39::Clean(0xffff_ffff)),
     ];
     for (value, bits, answer) in reads {
-        assert_eq!(rt; word(&rt, value, bits).read(), answer, "cell of {value}");
+        expect(&rt, value, word(&rt, value, bits).read() == answer);
     }
+}
 
+#[test]
+fn words_at_their_budget(rt: HostRuntime) {
     let mut cell = word(&rt, 0x0000_005a, &[0, 0]);
-    assert_eq!(rt; cell.flip(1), Flipped::Declined(2));
-    assert_eq!(rt; cell.bits(), 0x1e_0000_005a);
+    assert!(rt; cell.flip(1) == Flipped::Declined(2));
+    assert!(rt; cell.bits() == 0x1e_0000_005a);
     cell.write(0x0000_0077);
     assert!(rt; !cell.is_struck());
     flip(&rt, &mut cell, 1);
-    assert_eq!(rt; cell.bits(), 0x0f_0000_0075);
-    assert_eq!(rt; cell.read(), Read39::Fixed(0x0000_0077, 1));
+    assert!(rt; cell.bits() == 0x0f_0000_0075);
+    assert!(rt; cell.read() == Read39::Fixed(0x0000_0077, 1));
 }
 
 #[test]
 fn bytes_with_their_parity(rt: HostRuntime) {
     let mut cell: Cell<Byte9> = Cell::new(0x5b);
-    assert_eq!(rt; cell.read(), Some(0x5b));
-    assert_eq!(rt; cell.bits(), 0x15b);
+    assert!(rt; cell.read() == Some(0x5b));
+    assert!(rt; cell.bits() == 0x15b);
     flip(&rt, &mut cell, 8);
-    assert_eq!(rt; cell.read(), None);
-    assert_eq!(rt; cell.flip(8), Flipped::Declined(1));
-    assert_eq!(rt; cell.read(), None);
+    assert!(rt; cell.read().is_none());
+    assert!(rt; cell.flip(8) == Flipped::Declined(1));
+    assert!(rt; cell.read().is_none());
     cell.write(0x80);
-    assert_eq!(rt; cell.read(), Some(0x80));
+    assert!(rt; cell.read() == Some(0x80));
     flip(&rt, &mut cell, 7);
-    assert_eq!(rt; cell.bits(), 0x100);
-    assert_eq!(rt; cell.read(), None);
+    assert!(rt; cell.bits() == 0x100);
+    assert!(rt; cell.read().is_none());
 }

@@ -1,5 +1,6 @@
-use crate::log::Log;
+use super::expect;
 use lf_model::bus::{Entry, OpKind};
+use order_log::Log;
 use std::mem::size_of;
 use std::test::Fail;
 
@@ -82,7 +83,7 @@ fn bytes_after_entries(rt: HostRuntime) -> Result<(), Fail> {
     log.push(BYTE);
     for (addr, bytes) in BYTES {
         for i in 0..5 {
-            assert_eq!(rt; log.byte_after(i, addr), bytes[i as usize], "{i} at {addr}");
+            expect(&rt, addr, log.byte_after(i, addr) == bytes[i as usize]);
         }
     }
     Ok(())
@@ -91,14 +92,14 @@ fn bytes_after_entries(rt: HostRuntime) -> Result<(), Fail> {
 #[test]
 fn entries_as_they_came(rt: HostRuntime) -> Result<(), Fail> {
     let mut log = Log::new(rt.alloc(), 2)?;
-    assert_eq!(rt; log.len(), 0);
+    assert!(rt; log.len() == 0);
     log.push(SWAP);
     log.push(HALF);
-    assert_eq!(rt; log.len(), 2);
+    assert!(rt; log.len() == 2);
     let e = log.at(0);
-    assert_eq!(rt; (e.got, e.put, e.core, e.k), (0x89ab_cdef, 0x11, 2, 7));
-    assert_eq!(rt; (e.addr, e.kind, e.len), (0x4000_000c, OpKind::Atomic, 4));
-    assert_eq!(rt; (log.at(1).core, log.at(1).k), (1, 0));
+    assert!(rt; (e.got, e.put, e.core, e.k) == (0x89ab_cdef, 0x11, 2, 7));
+    assert!(rt; (e.addr, e.kind, e.len) == (0x4000_000c, OpKind::Atomic, 4));
+    assert!(rt; (log.at(1).core, log.at(1).k) == (1, 0));
     Ok(())
 }
 

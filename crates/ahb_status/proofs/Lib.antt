@@ -1,0 +1,2 @@
+pub mod FirstNote
+pub mod TurnLemmas
