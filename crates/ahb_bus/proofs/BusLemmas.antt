@@ -9,8 +9,8 @@ use Rattle.lf_num.specs.Columns.{columns_sum}
 use Rattle.lf_model.specs.Flips.{Moment, is_bad_word}
 use Rattle.lf_model.specs.Start.{ram_first, is_in_ram}
 use Rattle.lf_model.specs.declared.bus.Line.{Line}
-use Rattle.ft_memory.specs.Cells.{CellState, fresh, is_bad, shown_word, syndrome_of}
-use Rattle.ft_memory.specs.Memory.{ram_of, place_of, cell_at, line_at}
+use Rattle.early_memory.specs.Cells.{CellState, fresh, is_bad, shown_word, syndrome_of}
+use Rattle.early_memory.specs.Memory.{ram_of, place_of, cell_at, line_at}
 use Rattle.flip_plan.specs.Cells.{IsCellOf}
 use Rattle.ahb_bus.specs.BusState.{BusState, word_of, met, shown, ShowsWord, ShowsLine}
 use Rattle.ahb_bus.specs.Cells.{values, AreCellsOf}

@@ -6,8 +6,8 @@ use Rattle.std.proofs.lemmas.List.{get_or-set_same, get_or-set_other, length-set
 use Rattle.lf_model.specs.Flips.{How, Moment}
 use Rattle.lf_model.specs.Flips.Moment.{Struck, Written}
 use Rattle.lf_model.specs.Start.{ram_first, is_in_ram}
-use Rattle.ft_memory.specs.Cells.{CellState, fresh, FlipsCell}
-use Rattle.ft_memory.specs.Memory.{ram_of, place_of, cell_at}
+use Rattle.early_memory.specs.Cells.{CellState, fresh, FlipsCell}
+use Rattle.early_memory.specs.Memory.{ram_of, place_of, cell_at}
 use Rattle.ft_cells.specs.declared.flipped.Flipped.{Flipped}
 use Rattle.ft_cells.specs.declared.flipped.Flipped.TheVariants.{Applied, Declined}
 use Rattle.flip_plan.specs.Cells.{IsCellOf}

@@ -10,7 +10,7 @@ use Rattle.lf_model.specs.declared.bus.Transfer.{Transfer}
 use Rattle.lf_model.specs.declared.bus.TurnKind.{TurnKind}
 use Rattle.lf_model.specs.declared.bus.TurnKind.TheVariants.{Fetch, Load, Store, Atomic, Snoop, Look, Fix}
 use Rattle.lf_model.specs.declared.flip.Flip.{Flip}
-use Rattle.ft_memory.specs.Parts.{word_address}
+use Rattle.early_memory.specs.Parts.{word_address}
 use Rattle.ahb_bus.specs.BusState.{BusState, met, is_fill, after_turn}
 
 -- a history goes on by one more transfer

@@ -15,9 +15,9 @@ use Rattle.lf_model.specs.declared.bus.Transfer.{Transfer}
 use Rattle.lf_model.specs.declared.bus.TurnKind.TheVariants.{Store}
 use Rattle.lf_model.specs.declared.trace.Fate.{Fate}
 use Rattle.lf_model.specs.declared.trace.Fate.TheVariants.{Late}
-use Rattle.ft_memory.specs.Cells.{CellState, fresh}
-use Rattle.ft_memory.specs.Memory.{ram_of, place_of, HoldsImage}
-use Rattle.ft_memory.specs.Parts.{word_address}
+use Rattle.early_memory.specs.Cells.{CellState, fresh}
+use Rattle.early_memory.specs.Memory.{ram_of, place_of, HoldsImage}
+use Rattle.early_memory.specs.Parts.{word_address}
 use Rattle.flip_plan.specs.Plan.{IsCursor, IsPlan, strikes_from}
 use Rattle.flip_plan.specs.Striking.{after_run, marked}
 use Rattle.flip_plan.specs.Telling.{TellSame, TellAll}

@@ -11,9 +11,9 @@ use Rattle.lf_model.specs.declared.bus.Transfer.{Transfer}
 use Rattle.lf_model.specs.declared.bus.TurnKind.{TurnKind}
 use Rattle.lf_model.specs.declared.bus.TurnKind.TheVariants.{Fetch, Load, Store, Atomic, Snoop, Look, Fix}
 use Rattle.lf_model.specs.declared.trace.Fate.{Fate}
-use Rattle.ft_memory.specs.Cells.{CellState, fresh}
-use Rattle.ft_memory.specs.Memory.{ram_of, place_of, cell_at}
-use Rattle.ft_memory.specs.Parts.{word_address, is_part}
+use Rattle.early_memory.specs.Cells.{CellState, fresh}
+use Rattle.early_memory.specs.Memory.{ram_of, place_of, cell_at}
+use Rattle.early_memory.specs.Parts.{word_address, is_part}
 use Rattle.flip_plan.specs.Cells.{IsCellOf}
 use Rattle.ahb_bus.specs.BusState.{BusState, ram_size, word_of, met, after_turn, with_word}
 use Rattle.ahb_bus.specs.Storing.{is_rewrite, word_stored, with_stored}

@@ -12,7 +12,7 @@ use Rattle.lf_model.specs.declared.config.Config.{Config}
 use Rattle.lf_model.specs.declared.flip.Flip.{Flip}
 use Rattle.lf_model.specs.declared.flip.Flip.TheVariants.{Mem}
 use Rattle.lf_model.specs.declared.setup.Setup.{Setup}
-use Rattle.ft_memory.specs.Memory.{place_of}
+use Rattle.early_memory.specs.Memory.{place_of}
 use Rattle.ahb_bus.specs.declared.record.Who.{Who}
 
 pub record BusState : Type 0 where

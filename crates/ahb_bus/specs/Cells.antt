@@ -2,7 +2,7 @@
 use Rattle.std.specs.Prelude.{ℕ, ◌+◌, ◌*◌, ◌<◌, List, length, map, slice_index_or}
 use Rattle.lf_model.specs.Flips.{Moment}
 use Rattle.lf_model.specs.Start.{ram_first}
-use Rattle.ft_memory.specs.Cells.{CellState, fresh}
+use Rattle.early_memory.specs.Cells.{CellState, fresh}
 use Rattle.flip_plan.specs.Cells.{IsCellOf}
 
 -- the word last written to each cell

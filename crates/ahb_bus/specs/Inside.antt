@@ -2,7 +2,7 @@
 use Rattle.std.specs.Prelude.{ℕ, ◌+◌, ◌-◌, ◌^◌, ◌<◌, ◌≤◌, length, All, if◌then◌else◌}
 use Rattle.std.specs.Prelude.{vec_len, vec_capacity}
 use Rattle.lf_model.specs.Strikes.{memory_aim}
-use Rattle.ft_memory.specs.Memory.{ram_of}
+use Rattle.early_memory.specs.Memory.{ram_of}
 use Rattle.flip_plan.specs.Plan.{IsPlan, IsCursor}
 use Rattle.flip_plan.specs.Telling.{TellAll}
 use Rattle.ahb_bus.specs.declared.bus.Bus.TheInside.{Inside}

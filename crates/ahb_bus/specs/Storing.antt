@@ -5,7 +5,7 @@ use Rattle.lf_model.specs.declared.bus.Transfer.{Transfer}
 use Rattle.lf_model.specs.declared.bus.TurnKind.{TurnKind}
 use Rattle.lf_model.specs.declared.bus.TurnKind.TheVariants.{Store, Atomic}
 use Rattle.lf_model.specs.declared.bus.Why.{Why}
-use Rattle.ft_memory.specs.Parts.{word_address, is_part, merged}
+use Rattle.early_memory.specs.Parts.{word_address, is_part, merged}
 use Rattle.ahb_bus.specs.BusState.{BusState, word_of, met, with_word}
 use Rattle.ahb_bus.specs.declared.record.Who.{Who}
 

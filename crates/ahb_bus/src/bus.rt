@@ -1,9 +1,9 @@
 ghost use Rattle.std.specs.Prelude.{◌≡◌, ◌+◌, ◌*◌, ◌%◌, ◌^◌, ◌<◌, ◌≤◌, ◌↔◌, [], ◌∷◌, ◌++◌, true, false, length, map, All, IsTrue, IsOk, IsErr, IfOk, IfErr, vec_len};
 ghost use Rattle.lf_model.specs.Start.{is_in_ram};
 ghost use Rattle.lf_model.specs.FlipFates.{TellsFates};
-ghost use Rattle.ft_memory.specs.Memory.{IsInRam};
+ghost use Rattle.early_memory.specs.Memory.{IsInRam};
 ghost use Rattle.lf_model.specs.declared.bus.TurnKind.TheVariants.{Store};
-ghost use Rattle.ft_memory.specs.Parts.{word_address};
+ghost use Rattle.early_memory.specs.Parts.{word_address};
 ghost use Rattle.ahb_bus.specs.BusState.{ram_size, word_of, shown, is_fill, fill_made, after_turn, with_word, without_length, most_transfers, ShowsLine, AimsInRam, StartsWith};
 ghost use Rattle.ahb_bus.specs.Storing.{is_store_length, is_atomic_length, is_rewrite, meets_bad, syndrome_at, is_lost, with_stored, write_made, rewrite_made, store_made, atomic_made};
 
@@ -14,7 +14,7 @@ use crate::stop::stop_all;
 use crate::strike::strike_all;
 use crate::transfer::{note, packed_syndromes, with_read, without_lengths, write_of};
 use flip_plan::{Array, Strike, plan_of, run_end};
-use ft_memory::{Got, Memory};
+use early_memory::{Got, Memory};
 use lf_model::bus::{Bad, Line, Pending, Transfer, TurnKind, Why};
 use lf_model::config::Config;
 use lf_model::flip::Flips;

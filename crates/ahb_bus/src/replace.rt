@@ -1,11 +1,11 @@
 ghost use Rattle.std.specs.Prelude.{◌≡◌, ◌+◌, ◌%◌, ◌^◌, ◌<◌, ◌==◌, ◌||◌, ◌↔◌, length, slice_set, IsTrue, IsOk, IsErr, IfOk, IfErr};
 ghost use Rattle.lf_model.specs.Start.{is_in_ram};
-ghost use Rattle.ft_memory.specs.Cells.{fresh, syndrome_of};
-ghost use Rattle.ft_memory.specs.Memory.{ram_of, place_of, cell_at};
-ghost use Rattle.ft_memory.specs.Parts.{word_address, is_part};
+ghost use Rattle.early_memory.specs.Cells.{fresh, syndrome_of};
+ghost use Rattle.early_memory.specs.Memory.{ram_of, place_of, cell_at};
+ghost use Rattle.early_memory.specs.Parts.{word_address, is_part};
 ghost use Rattle.ahb_bus.specs.Storing.{word_stored};
 
-use ft_memory::{Got, Memory};
+use early_memory::{Got, Memory};
 use lf_model::bus::{Bad, Pending};
 
 /// Reads the word that `p.addr` lies in, and writes it with the number of `p` in its place: a byte, half or word. A bad word

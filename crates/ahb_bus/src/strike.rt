@@ -1,13 +1,13 @@
 ghost use Rattle.std.specs.Prelude.{◌≡◌, ◌<◌, ℕ, List, All, map, vec_len};
 ghost use Rattle.lf_model.specs.Flips.{Moment};
-ghost use Rattle.ft_memory.specs.Memory.{ram_of};
+ghost use Rattle.early_memory.specs.Memory.{ram_of};
 ghost use Rattle.flip_plan.specs.Striking.{struck_by, after_run, marked_one, marked};
 ghost use Rattle.ahb_bus.specs.Aimed.{IsAimed};
 ghost use Rattle.ahb_bus.specs.Cells.{values, AreCellsOf};
 
 use crate::held::{Held, hold};
 use flip_plan::Strike;
-use ft_memory::{Flipped, Memory};
+use early_memory::{Flipped, Memory};
 use lf_model::trace::Fate;
 
 /// Strikes a flip, and tells its fate.

@@ -8,8 +8,8 @@ use Rattle.lf_model.specs.Step.{read_by}
 use Rattle.lf_model.specs.declared.step.RegBad.{RegBad}
 use Rattle.lf_model.specs.declared.trace.Fate.TheVariants.{Repaired}
 use Rattle.ft_cells.specs.WordCells.{CellState, fresh, is_bad, is_fixed, syndrome_of}
-use Rattle.ft_regfile.specs.Registers.{Registers, cell_of, rewritten, written, shown}
-use Rattle.ft_regfile.specs.Registers.{after_read as read_back}
+use Rattle.early_regfile.specs.Registers.{Registers, cell_of, rewritten, written, shown}
+use Rattle.early_regfile.specs.Registers.{after_read as read_back}
 use Rattle.leon_core.specs.Upsets.{Upset, unstruck, bad_of, after_read, read_cell, write_cell}
 use Rattle.leon_core.specs.RegistersState.{RegistersState, values_in, upset_of, struck_of, value_unless}
 use Rattle.leon_core.proofs.HistoryLemmas.{map_at}

@@ -11,8 +11,8 @@ use Rattle.lf_model.specs.declared.trace.Fate.TheVariants as fates
 use Rattle.ft_cells.specs.WordCells.{CellState, FlipsCell, budget, fresh, flipped, is_fixed}
 use Rattle.ft_cells.specs.declared.flipped.Flipped.{Flipped}
 use Rattle.ft_cells.specs.declared.flipped.Flipped.TheVariants as flips
-use Rattle.ft_regfile.specs.Registers.{Registers, cell_of, told, rewritten, written, after_read, struck, standing_in, Flips}
-use Rattle.ft_regfile.proofs.KeptLemmas.{length-told}
+use Rattle.early_regfile.specs.Registers.{Registers, cell_of, told, rewritten, written, after_read, struck, standing_in, Flips}
+use Rattle.early_regfile.proofs.KeptLemmas.{length-told}
 use Rattle.flip_plan.specs.Cells.{IsCellOf}
 use Rattle.flip_plan.specs.Striking.{struck_by, after_run, marked_one}
 use Rattle.flip_plan.specs.declared.plan.Strike.{Strike}

@@ -10,7 +10,7 @@ use Rattle.lf_model.specs.Strikes.{Aim}
 use Rattle.lf_model.specs.declared.flip.Flip.{Flip}
 use Rattle.lf_model.specs.declared.flip.Flip.TheVariants.{Reg}
 use Rattle.ft_cells.specs.WordCells.{cell_bits}
-use Rattle.ft_regfile.specs.Registers.{cell_count}
+use Rattle.early_regfile.specs.Registers.{cell_count}
 use Rattle.flip_plan.specs.Plan.{strike_with, strikes_from, IsByTime, IsPlan, IsCursor}
 use Rattle.flip_plan.specs.declared.plan.Strike.{Strike}
 use Rattle.flip_plan.proofs.PlanLemmas.{run_between, run_all, behind_end}

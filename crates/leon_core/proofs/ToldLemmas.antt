@@ -14,7 +14,7 @@ use Rattle.lf_model.specs.Strikes.{Aim, register_aim}
 use Rattle.lf_model.specs.declared.flip.Flip.{Flip}
 use Rattle.lf_model.specs.declared.trace.Fate.{Fate}
 use Rattle.lf_model.specs.declared.trace.Fate.TheVariants as fates
-use Rattle.ft_regfile.specs.Registers.{Registers}
+use Rattle.early_regfile.specs.Registers.{Registers}
 use Rattle.flip_plan.specs.Plan.{strike_with, strikes_from, IsPlan}
 use Rattle.flip_plan.specs.declared.plan.Strike.{Strike}
 use Rattle.flip_plan.proofs.TellLemmas.{tells_outcome}

@@ -6,7 +6,7 @@ use Rattle.lf_model.specs.declared.trace.Fate.{Fate}
 use Rattle.ft_cells.specs.WordCells.{CellState, cell_bits, fresh}
 use Rattle.ft_cells.specs.declared.flipped.Flipped.{Flipped}
 use Rattle.ft_cells.specs.declared.flipped.Flipped.TheVariants as flips
-use Rattle.ft_regfile.specs.Registers.{Registers, cell_count}
+use Rattle.early_regfile.specs.Registers.{Registers, cell_count}
 use Rattle.flip_plan.specs.Cells.{IsCellOf}
 use Rattle.flip_plan.specs.Plan.{IsCursor}
 use Rattle.flip_plan.specs.Striking.{after_run, marked}

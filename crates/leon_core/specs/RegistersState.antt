@@ -8,7 +8,7 @@ use Rattle.lf_model.specs.declared.flip.Flip.{Flip}
 use Rattle.lf_model.specs.declared.trace.Fate.{Fate}
 use Rattle.lf_model.specs.declared.trace.Fate.TheVariants as fates
 use Rattle.ft_cells.specs.WordCells.{CellState, cell_bits}
-use Rattle.ft_regfile.specs.Registers.{Registers, cell_count, at_start}
+use Rattle.early_regfile.specs.Registers.{Registers, cell_count, at_start}
 use Rattle.flip_plan.specs.Plan.{strikes_from}
 use Rattle.leon_core.specs.Upsets.{Upset, Struck, bad_cells}
 use Rattle.leon_core.specs.Following.{FollowsHistories}

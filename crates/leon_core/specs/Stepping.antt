@@ -2,7 +2,7 @@
 use Rattle.std.specs.Prelude.{◌+◌, ◌==◌, nat_lt, Bool, List, [], ◌∷◌, length, filter, slice_set, if◌then◌else◌}
 use Rattle.lf_model.specs.Strikes.{register_aim}
 use Rattle.ft_cells.specs.WordCells.{budget}
-use Rattle.ft_regfile.specs.Registers.{Registers, cell_of, struck}
+use Rattle.early_regfile.specs.Registers.{Registers, cell_of, struck}
 use Rattle.flip_plan.specs.Plan.{strikes_from}
 use Rattle.flip_plan.specs.declared.plan.Strike.{Strike}
 use Rattle.leon_core.specs.RegistersState.{RegistersState}

@@ -1,7 +1,7 @@
 -- How the fates of a core's flips are told, one strike of its plan after another.
 use Rattle.std.specs.Prelude.{ℕ, List, [], ◌∷◌, Option, slice_index_or, slice_set}
 use Rattle.lf_model.specs.declared.trace.Fate.{Fate}
-use Rattle.ft_regfile.specs.Registers.{Registers}
+use Rattle.early_regfile.specs.Registers.{Registers}
 use Rattle.flip_plan.specs.declared.plan.Strike.{Strike}
 use Rattle.leon_core.specs.RegistersState.{fate_by, is_named}
 use Rattle.leon_core.specs.declared.outcome.Outcome.{Outcome}

@@ -2,7 +2,7 @@ ghost use Rattle.std.specs.Prelude.{◌≡◌, ◌+◌, ◌^◌, ◌<◌, ◌≤
 ghost use Rattle.lf_model.specs.Flips.{Moment};
 ghost use Rattle.lf_model.specs.RegisterHistory.{begun_cells};
 ghost use Rattle.lf_model.specs.Step.{read_by};
-ghost use Rattle.ft_regfile.specs.Registers.{cell_count, after_read, written};
+ghost use Rattle.early_regfile.specs.Registers.{cell_count, after_read, written};
 ghost use Rattle.leon_core.specs.Upsets.{bad_cells, read_cell, write_cell};
 ghost use Rattle.leon_core.specs.Following.{FollowsHistories};
 ghost use Rattle.leon_core.specs.Stepping.{after_start};
@@ -12,7 +12,7 @@ use crate::outcome::Outcome;
 use crate::strike::strike_due;
 use crate::tell::tell_all;
 use flip_plan::{Array, Strike, plan_of};
-use ft_regfile::RegFile;
+use early_regfile::RegFile;
 use lf_model::flip::Flips;
 use lf_model::step::RegBad;
 use lf_model::trace::Fate;

@@ -4,7 +4,7 @@ ghost use Rattle.leon_core.specs.Keeping.{AreKept, IsAimed, IsReady, Strikes};
 
 use crate::outcome::Outcome;
 use flip_plan::{Strike, run_end};
-use ft_regfile::RegFile;
+use early_regfile::RegFile;
 
 /// Strikes a flip, and notes its outcome.
 fn strike(file: &mut RegFile, outcomes: &mut Vec<Outcome>, s: Strike)

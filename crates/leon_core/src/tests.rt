@@ -2,7 +2,7 @@ ghost use Rattle.std.specs.Prelude.{◌≡◌, ◌+◌, ◌^◌, ◌<◌, ◌≤
 ghost use Rattle.leon_core.specs.RegistersState.{AimsAtCell};
 
 use crate::registers::Registers;
-use ft_regfile::CELL_COUNT;
+use early_regfile::CELL_COUNT;
 use lf_model::flip::{Flip, Flips};
 use lf_model::listed::Listed;
 use lf_model::trace::Fate;

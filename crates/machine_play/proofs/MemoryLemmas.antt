@@ -7,12 +7,12 @@ use Rattle.std.proofs.lemmas.List.Elements.{filter-append}
 use Rattle.lf_model.specs.Start.{ram_first, number_at, is_in_ram, initial_byte}
 use Rattle.lf_model.specs.Value.{stored}
 use Rattle.lf_model.specs.Operation.{byte_of, byte_got, byte_put, touches, entry_reads}
-use Rattle.ft_memory.specs.Memory.{place_of}
+use Rattle.early_memory.specs.Memory.{place_of}
 use Rattle.lf_model.specs.declared.bus.Entry.{Entry}
 use Rattle.lf_model.specs.declared.setup.Setup.{Setup}
 use Rattle.machine_play.specs.Memory.{entry_enters, ReadsEach, byte_after, HoldsWords, HasBytes}
 use Rattle.machine_play.proofs.NumberLemmas.{byte_of_number, number_of_word, number_small}
-use Rattle.ft_memory.proofs.LoadLemmas.{number_at-same}
+use Rattle.early_memory.proofs.LoadLemmas.{number_at-same}
 
 pub stored_push : (a : ℕ) (es : List Entry) (e : Entry) (byte : ℕ) → stored a (es ++ e ∷ []) byte ≡ cond (touches a e) (byte_put a e) (stored a es byte)
 stored_push a [] e byte = refl

@@ -4,7 +4,7 @@ use Rattle.std.specs.Prelude.{All}
 use Rattle.std.specs.List.{list_any}
 use Rattle.std.proofs.lemmas.Bool.{cases_Bool, and_parts, leb-true, ltb-true}
 use Rattle.std.proofs.lemmas.List.Elements.{All-head, All-tail}
-use Rattle.ft_memory.proofs.LoadLemmas.{number_at-same}
+use Rattle.early_memory.proofs.LoadLemmas.{number_at-same}
 use Rattle.lf_model.specs.Start.{ram_first, initial_byte, number_at, word_at, in_range, is_text_byte, is_text_word, is_in_ram, IsLoadable}
 use Rattle.lf_model.specs.declared.image.Range.{Range}
 use Rattle.lf_model.specs.declared.image.Image.{Image}

@@ -15,7 +15,7 @@ use Rattle.lf_model.specs.declared.trace.Op.{Op}
 use Rattle.leon_core.specs.RegistersState.{values, StartsWith as StartsRegisters}
 use Rattle.ahb_bus.specs.BusState.{BusState, StartsWith}
 use Rattle.machine_play.specs.declared.machine.Machine.{Machine}
-use Rattle.ft_memory.specs.Memory.{place_of}
+use Rattle.early_memory.specs.Memory.{place_of}
 use Rattle.machine_play.specs.declared.hand.Hand.{Hand}
 use Rattle.machine_play.specs.Playable.{IsPlayable}
 use Rattle.machine_play.specs.Memory.{NumberedFrom, ReadsEach, entry_answers, byte_after}

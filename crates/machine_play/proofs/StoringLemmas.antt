@@ -7,9 +7,9 @@ use Rattle.lf_model.specs.Start.{ram_first}
 use Rattle.lf_model.specs.Operation.{byte_of, byte_got, byte_put, touches}
 use Rattle.lf_model.specs.declared.bus.Entry.{Entry}
 use Rattle.lf_model.specs.declared.setup.Setup.{Setup}
-use Rattle.ft_memory.specs.Memory.{place_of}
-use Rattle.ft_memory.specs.Parts.{is_part, merged}
-use Rattle.ft_memory.proofs.PartLemmas.{merged-bytes, first_byte, second_byte, third_byte, fourth_byte, first_half, second_half}
+use Rattle.early_memory.specs.Memory.{place_of}
+use Rattle.early_memory.specs.Parts.{is_part, merged}
+use Rattle.early_memory.proofs.PartLemmas.{merged-bytes, first_byte, second_byte, third_byte, fourth_byte, first_half, second_half}
 use Rattle.ahb_bus.specs.BusState.{BusState, word_of, with_word}
 use Rattle.ahb_bus.specs.Storing.{is_store_length, with_stored}
 use Rattle.machine_play.specs.Memory.{entry_enters, HoldsWords, HasBytes, byte_after}

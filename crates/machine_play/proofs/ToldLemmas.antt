@@ -16,7 +16,7 @@ use Rattle.lf_model.specs.declared.bus.TurnKind.TheVariants.{Store, Atomic}
 use Rattle.lf_model.specs.declared.flip.Flip.{Flip}
 use Rattle.lf_model.specs.declared.flip.Flip.TheVariants.{Mem, Reg, Tag, Line}
 use Rattle.lf_model.specs.declared.trace.Fate.{Fate}
-use Rattle.ft_memory.specs.Parts.{word_address}
+use Rattle.early_memory.specs.Parts.{word_address}
 use Rattle.ahb_bus.specs.BusState.{BusState, met, after_turn, without_length, AimsInRam}
 use Rattle.ahb_bus.proofs.HistoryLemmas.{met-after}
 

@@ -24,7 +24,7 @@ use Rattle.lf_model.specs.declared.flip.Flip.{Flip}
 use Rattle.lf_model.specs.declared.setup.Setup.{Setup}
 use Rattle.lf_model.specs.declared.trace.Op.{Op}
 use Rattle.lf_model.proofs.EachLemmas.{each_append, each_weaker}
-use Rattle.ft_memory.specs.Parts.{word_address, is_part}
+use Rattle.early_memory.specs.Parts.{word_address, is_part}
 use Rattle.ahb_bus.specs.BusState.{BusState, met, packed, word_of, fill_made, after_turn, with_word, without_length, ram_size, ShowsLine}
 use Rattle.ahb_bus.specs.Storing.{word_stored, with_stored, write_made, rewrite_made, store_made, atomic_made, packed_alone}
 use Rattle.ahb_bus.specs.declared.record.Who.{Who}

@@ -10,7 +10,7 @@ use Rattle.lf_model.specs.declared.bus.TurnKind.TheVariants.{Load, Store, Atomic
 use Rattle.lf_model.specs.declared.trace.CoreEnd.{CoreEnd}
 use Rattle.lf_model.specs.declared.trace.CoreEnd.TheVariants.{Halt, Stop, Limit}
 use Rattle.lf_model.specs.declared.trace.Op.{Op}
-use Rattle.ft_memory.specs.Parts.{is_part}
+use Rattle.early_memory.specs.Parts.{is_part}
 
 -- ---- which transfer each operation makes
 

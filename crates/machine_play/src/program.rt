@@ -2,7 +2,7 @@ ghost use Rattle.std.specs.Prelude.{◌≡◌, ◌<◌, ◌≤◌, ◌+◌, ◌%
 ghost use Rattle.lf_model.specs.Start.{ram_first, initial_byte, is_text_word, touches_text, word_at, IsLoadable};
 ghost use Rattle.machine_play.specs.Memory.{HasBytes};
 
-use ft_memory::{initial_bytes, word_at};
+use early_memory::{initial_bytes, word_at};
 use lf_model::addresses::RAM_FIRST;
 use lf_model::setup::Setup;
 use std::alloc::{AllocError, Global};

@@ -1,5 +1,5 @@
 use Rattle.std.proofs.Common.{vec_len}
-use Rattle.ft_memory.specs.Memory.{place_of, cell_at}
+use Rattle.early_memory.specs.Memory.{place_of, cell_at}
 use Rattle.ft_cells.specs.declared.flipped.Flipped.TheVariants.{Applied, Declined}
 use Rattle.ahb_bus.proofs.CellLemmas.{cells_struck, values_struck}
 use Rattle.ahb_bus.proofs.strike.strike.Goals as goal

@@ -1,5 +1,5 @@
 use Rattle.std.proofs.Common.{◌≡◌, false, true, subst, IsTrue, length}
-use Rattle.ft_memory.specs.Parts.{word_address}
+use Rattle.early_memory.specs.Parts.{word_address}
 use Rattle.ahb_bus.specs.BusState.{BusState, after_turn}
 use Rattle.ahb_bus.specs.Storing.{meets_bad, syndrome_at, with_stored, atomic_made}
 use Rattle.machine_play.specs.Machine.{in_turn}

@@ -1,6 +1,6 @@
 use Rattle.std.proofs.Common.{◌≡◌, false, true, subst, IsTrue, length}
 use Rattle.lf_model.specs.declared.bus.Why.TheVariants.{Full}
-use Rattle.ft_memory.specs.Parts.{word_address}
+use Rattle.early_memory.specs.Parts.{word_address}
 use Rattle.ahb_bus.specs.BusState.{BusState, after_turn}
 use Rattle.ahb_bus.specs.Storing.{is_lost, syndrome_at, with_stored, store_made}
 use Rattle.machine_play.specs.Machine.{in_turn}

@@ -1,5 +1,5 @@
 use Rattle.std.proofs.Common.{refl, sym, ◌∙◌}
-use Rattle.ft_memory.specs.Memory.{place_of, cell_at}
+use Rattle.early_memory.specs.Memory.{place_of, cell_at}
 use Rattle.ahb_bus.specs.BusState.{met}
 use Rattle.ahb_bus.specs.Inside.{seen}
 use Rattle.ahb_bus.proofs.BusLemmas.{value_at, in_ram_cells, cell_met, shown_good, shown_bad}

@@ -1,9 +1,9 @@
 use Rattle.std.proofs.Common.{◌≡◌, ℕ, [], ◌∷◌, ◌++◌, true, length, refl, ap, ◌∙◌, rules}
 use Rattle.lf_model.specs.declared.bus.Bad.{Bad}
 use Rattle.lf_model.specs.declared.bus.Transfer.{Transfer}
-use Rattle.ft_memory.specs.Cells.{fresh}
-use Rattle.ft_memory.specs.Memory.{place_of, cell_at}
-use Rattle.ft_memory.specs.Parts.{word_address}
+use Rattle.early_memory.specs.Cells.{fresh}
+use Rattle.early_memory.specs.Memory.{place_of, cell_at}
+use Rattle.early_memory.specs.Parts.{word_address}
 use Rattle.flip_plan.proofs.CellLemmas.{good_history, bad_history, same_syndrome}
 use Rattle.ahb_bus.specs.BusState.{BusState, met}
 use Rattle.ahb_bus.specs.Storing.{word_stored, packed_alone, rewrite_made}

@@ -1,8 +1,8 @@
 use Rattle.std.proofs.Common.{◌≡◌, ℕ, ◌+◌, ◌/◌, ◌%◌, ◌^◌, List, [], ◌∷◌, ◌++◌, true, length, slice_set, refl, ap, ◌∙◌, rules}
 use Rattle.lf_model.specs.declared.bus.Transfer.{Transfer}
 use Rattle.lf_model.specs.declared.bus.TurnKind.TheVariants.{Store}
-use Rattle.ft_memory.specs.Cells.{CellState, fresh}
-use Rattle.ft_memory.specs.Memory.{place_of}
+use Rattle.early_memory.specs.Cells.{CellState, fresh}
+use Rattle.early_memory.specs.Memory.{place_of}
 use Rattle.flip_plan.proofs.FateLemmas.{same_twice}
 use Rattle.ahb_bus.specs.BusState.{BusState}
 use Rattle.ahb_bus.specs.Storing.{write_made}

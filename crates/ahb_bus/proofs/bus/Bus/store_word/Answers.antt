@@ -3,8 +3,8 @@ use Rattle.std.proofs.lemmas.List.{map-set}
 use Rattle.lf_model.specs.Flips.How.{Whole}
 use Rattle.lf_model.specs.declared.bus.Transfer.{Transfer}
 use Rattle.lf_model.specs.declared.bus.TurnKind.TheVariants.{Store}
-use Rattle.ft_memory.specs.Cells.{CellState, fresh}
-use Rattle.ft_memory.specs.Memory.{place_of}
+use Rattle.early_memory.specs.Cells.{CellState, fresh}
+use Rattle.early_memory.specs.Memory.{place_of}
 use Rattle.ahb_bus.specs.BusState.{BusState}
 use Rattle.ahb_bus.specs.Storing.{write_made}
 use Rattle.ahb_bus.specs.Cells.{values}

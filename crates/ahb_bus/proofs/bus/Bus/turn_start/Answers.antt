@@ -1,6 +1,6 @@
 use Rattle.std.proofs.Common.{◌≡◌, ℕ, ◌+◌, ◌-◌, ◌<◌, ◌≤◌, false, nat_eq, List, length, take, drop, vec_len, sym, ap, ◌∙◌, subst, arith}
 use Rattle.std.specs.Prelude.{All, filter}
-use Rattle.ft_memory.specs.Memory.{ram_of}
+use Rattle.early_memory.specs.Memory.{ram_of}
 use Rattle.flip_plan.specs.Plan.{IsCursor}
 use Rattle.flip_plan.specs.declared.plan.Strike.{Strike}
 use Rattle.flip_plan.proofs.PlanLemmas.{run_in}

@@ -1,6 +1,6 @@
 use Rattle.std.proofs.Common.{◌≡◌, ℕ, ◌<◌, ◌≤◌, List, length, refl, sym, ap, ◌∙◌, subst, arith, rules}
 use Rattle.std.specs.Prelude.{All, replicate}
-use Rattle.ft_regfile.specs.Registers.{at_start}
+use Rattle.early_regfile.specs.Registers.{at_start}
 use Rattle.lf_model.specs.Strikes.{register_aim}
 use Rattle.lf_model.specs.declared.flip.Flip.{Flip}
 use Rattle.flip_plan.specs.Plan.{strikes_from, IsPlan}

@@ -1,5 +1,5 @@
 use Rattle.std.proofs.Common.{ap, ◌∙◌, sym, subst}
-use Rattle.ft_regfile.specs.Registers.{Registers}
+use Rattle.early_regfile.specs.Registers.{Registers}
 use Rattle.leon_core.specs.Upsets.{bad_cells, read_cell}
 use Rattle.leon_core.specs.RegistersState.{RegistersState, values, values_in, struck_of}
 use Rattle.leon_core.specs.Inside.{seen, AreRegisters}

@@ -1,6 +1,6 @@
 use Rattle.std.proofs.Common.{refl, ap, ◌∙◌, sym, subst}
 use Rattle.std.proofs.lemmas.List.{map-set}
-use Rattle.ft_regfile.specs.Registers.{Registers}
+use Rattle.early_regfile.specs.Registers.{Registers}
 use Rattle.leon_core.specs.Upsets.{bad_of, bad_cells, write_cell, unstruck}
 use Rattle.leon_core.specs.RegistersState.{RegistersState, values, values_in, struck_of}
 use Rattle.std.specs.Prelude.{slice_set, None}
