@@ -12,18 +12,3 @@ pub struct NoGate;
 impl Gate for NoGate {
     fn at(&self, _who: u32, _step: u32) {}
 }
-
-#[cfg(test)]
-mod tests {
-    use super::*;
-
-    // A gate is shared by threads.
-    fn pass<G: Gate + Sync>(gate: &G) {
-        gate.at(0, 1);
-    }
-
-    #[test]
-    fn no_gate_is_shared() {
-        pass(&NoGate);
-    }
-}

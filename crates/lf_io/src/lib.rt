@@ -25,6 +25,3 @@ pub use put::put_all;
 pub use read::{ReadErr, read_whole};
 pub use real::{RealFiles, RealSink};
 pub use sink::Sink;
-
-#[cfg(test)]
-mod tests;

@@ -1,15 +1,10 @@
-use super::*;
+use lf_io::{CleanFiles, CleanSink, Failed, MemFiles, MemSink, ReadErr, put_all, read_whole};
 use std::alloc::{AllocError, Global};
 use std::test::Fail;
 
 // 149,998 bytes, which three reads of 65,536 bytes at most give, and a fourth ends.
 fn long_file(alloc: Global) -> Result<Vec<u8>, AllocError> {
-    let mut bytes = Vec::new(alloc);
-    for _ in 0..10_714 {
-        bytes.extend_from_slice(b"fourteen bytes")?;
-    }
-    bytes.extend_from_slice(b"ab")?;
-    Ok(bytes)
+    (0..149_998).map(|at| (at % 251) as u8).collect(alloc)
 }
 
 #[test]
@@ -31,8 +26,8 @@ fn reads_whole_files_within_the_limit(rt: HostRuntime) -> Result<(), Fail> {
     for (name, limit, want) in rows {
         let got = read_whole(alloc, &mut files, name, limit);
         match (got, want) {
-            (Ok(bytes), Ok(text)) => assert!(rt; bytes.as_slice() == text.as_bytes(), "{name}"),
-            (Err(error), Err(wanted)) => assert_eq!(rt; error, wanted, "{name}, {limit}"),
+            (Ok(bytes), Ok(text)) => assert!(rt; bytes.as_slice() == text.as_bytes()),
+            (Err(error), Err(wanted)) => assert!(rt; error == wanted),
             _ => panic!(rt; "{name}, {limit}"),
         }
     }
@@ -47,9 +42,9 @@ fn clean_files_and_sinks_never_fail(rt: HostRuntime) -> Result<(), Fail> {
     let bytes = read_whole(alloc, &mut files, "a", 5)?;
     assert!(rt; bytes.as_slice() == b"hello".as_slice());
     let missing = read_whole(alloc, &mut files, "missing", 0)?;
-    assert_eq!(rt; missing.len(), 0);
+    assert!(rt; missing.is_empty());
     let mut out = CleanSink::new();
-    assert_eq!(rt; put_all(&mut out, b"hello"), Ok(()));
+    assert!(rt; put_all(&mut out, b"hello").is_ok());
     Ok(())
 }
 
@@ -62,15 +57,16 @@ fn each_read_fails_in_turn(rt: HostRuntime) -> Result<(), Fail> {
         files.put("long", &bytes)?;
         match read_whole(alloc, &mut files, "long", 149_998) {
             Ok(whole) => {
-                assert_eq!(rt; call, 5, "four reads come");
+                // Four reads come.
+                assert!(rt; call == 5);
                 assert!(rt; whole.as_slice() == bytes.as_slice());
                 return Ok(());
             }
-            Err(error) => assert_eq!(rt; error, ReadErr::Fault, "read {call}"),
+            Err(error) => assert!(rt; error == ReadErr::Fault),
         }
         // The next attempt, with no call on the list, is as if nothing had failed.
         let whole = read_whole(alloc, &mut files, "long", 149_998)?;
-        assert!(rt; whole.as_slice() == bytes.as_slice(), "after read {call}");
+        assert!(rt; whole.as_slice() == bytes.as_slice());
     }
     panic!(rt; "every run met a failure")
 }
@@ -88,8 +84,9 @@ fn each_write_fails_in_turn(rt: HostRuntime) -> Result<(), Fail> {
     for (call, want) in (1..).zip(taken) {
         let mut out = MemSink::new(rt.alloc(), 13, &[call])?;
         let done = write_pieces(&mut out);
-        assert!(rt; out.taken() == want.as_bytes(), "write {call}");
-        assert_eq!(rt; done.is_ok(), call == 4, "three writes come");
+        assert!(rt; out.taken() == want.as_bytes());
+        // Three writes come.
+        assert!(rt; done.is_ok() == (call == 4));
     }
     Ok(())
 }
@@ -97,9 +94,9 @@ fn each_write_fails_in_turn(rt: HostRuntime) -> Result<(), Fail> {
 #[test]
 fn a_full_sink_takes_what_has_room(rt: HostRuntime) -> Result<(), Fail> {
     let mut out = MemSink::new(rt.alloc(), 5, &[])?;
-    assert_eq!(rt; put_all(&mut out, b"abc"), Ok(()));
-    assert_eq!(rt; put_all(&mut out, b"def"), Err(Failed));
-    assert_eq!(rt; put_all(&mut out, b""), Ok(()));
+    assert!(rt; put_all(&mut out, b"abc").is_ok());
+    assert!(rt; put_all(&mut out, b"def").is_err());
+    assert!(rt; put_all(&mut out, b"").is_ok());
     assert!(rt; out.taken() == b"abcde".as_slice());
     Ok(())
 }
@@ -114,9 +111,9 @@ fn prints_errors(rt: HostRuntime) -> Result<(), Fail> {
     ];
     for (error, want) in rows {
         let text = error.to_string(alloc)?;
-        assert_eq!(rt; text.as_str(), want);
+        assert!(rt; text.as_str() == want);
     }
     let text = Failed.to_string(alloc)?;
-    assert_eq!(rt; text.as_str(), "a file or a sink failed");
+    assert!(rt; text.as_str() == "a file or a sink failed");
     Ok(())
 }
