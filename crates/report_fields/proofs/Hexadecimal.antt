@@ -10,10 +10,10 @@ use Rattle.report_fields.specs.Reading.{without, before}
 use Rattle.report_fields.specs.Digits.{digit_of, hex_more, hex_at}
 use Rattle.report_fields.proofs.Laws.{Reads, bind_some, literal_passes, before_reads}
 
-digit_glyph : (b d : ℕ) → digit_of b ≡ Some d → (b ≡ glyph d) × (d < 16)
+pub digit_glyph : (b d : ℕ) → digit_of b ≡ Some d → (b ≡ glyph d) × (d < 16)
 digit_glyph b d e = grind (arith, nat_tests)
 
-glyph_digit : (d : ℕ) → d < 16 → digit_of (glyph d) ≡ Some d
+pub glyph_digit : (d : ℕ) → d < 16 → digit_of (glyph d) ≡ Some d
 glyph_digit d small = grind (arith, nat_tests)
 
 pub glyph_above : (d : ℕ) → 48 ≤ glyph d
@@ -49,7 +49,7 @@ below_power k m none =
     let whole : m < m / 16 ^ k * 16 ^ k + 16 ^ k = lt-div-mul-add {a = m} (omega (arith, one-le-pow k 16 (omega arith))) in
     omega (arith, rw none at whole)
 
-digits_reads : (k : ℕ) → Reads (λ m. m < 16 ^ k) (hex k) (hex_more k 0)
+pub digits_reads : (k : ℕ) → Reads (λ m. m < 16 ^ k) (hex k) (hex_more k 0)
 digits_reads k = record {
   takes = λ bytes m rest e. let t = hex_take k 0 bytes m rest e in (t.0, below_power k m t.1);
   again = λ m rest small. ap (λ (n : ℕ). hex_more k n (hex k m ++ rest)) (sym (div-eq_of_lt small)) ∙ hex_again k m rest;

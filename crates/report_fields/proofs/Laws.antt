@@ -161,3 +161,10 @@ fits_reads G inner there back = record {
   takes = λ bytes x rest e. let t = inner.takes bytes x rest e in (t.0, there x t.1);
   again = λ x rest fits. inner.again x rest (back x fits);
 }
+
+-- the same reader, with the text in other words
+pub text_reads : {X : Type 0} {F : X → Type 0} {s : X → List ℕ} {p : List ℕ → Read X} (t : X → List ℕ) → Reads F s p → ((x : X) → F x → t x ≡ s x) → Reads F t p
+text_reads {X} {F} {s} {p} t inner same = record {
+  takes = λ bytes x rest e. let g = inner.takes bytes x rest e in (g.0 ∙ ap (λ (w : List ℕ). w ++ rest) (sym (same x g.1)), g.1);
+  again = λ x rest fits. ap (λ (w : List ℕ). p (w ++ rest)) (same x fits) ∙ inner.again x rest fits;
+}

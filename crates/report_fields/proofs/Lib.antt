@@ -1,4 +1,3 @@
-pub mod Items
 pub mod Power
 pub mod Steps
 pub mod Laws

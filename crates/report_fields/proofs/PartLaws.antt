@@ -14,7 +14,7 @@ pub record PartReads {X : Type 0} (Fits : X → Type 0) (text : X → List ℕ) 
 pub ok_is : {X : Type 0} (x y : X) → ◌≡◌ {A = Result X ℕ} (Ok x) (Ok y) → x ≡ y
 ok_is x y e = grind arith
 
-err_ok : {X : Type 0} (n : ℕ) (x : X) → ◌≡◌ {A = Result X ℕ} (Err n) (Ok x) → ⊥
+pub err_ok : {X : Type 0} (n : ℕ) (x : X) → ◌≡◌ {A = Result X ℕ} (Err n) (Ok x) → ⊥
 err_ok n x e = cc
 
 pub bind_ok : {X Y : Type 0} (r : Result X ℕ) (f : X → Result Y ℕ) (y : Y) → (r >=> f) ≡ Ok y → (x : X) × (r ≡ Ok x) × (f x ≡ Ok y)

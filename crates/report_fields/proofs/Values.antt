@@ -126,5 +126,5 @@ way_reads stop below = fits_reads (λ n. fits_byte n ≡ true) (number_reads sto
 pub byte_reads : (stop : ℕ) → Reads (λ n. fits_byte n ≡ true) (hex_field stop 2) (hex_at stop 2)
 byte_reads stop = fits_reads (λ n. fits_byte n ≡ true) (hex_reads stop 2) (λ n h. lt-ltb n 256 h) (λ n h. ltb-true n 256 h)
 
-pub word_reads : (stop : ℕ) → Reads (λ n. fits_word n ≡ true) (hex_field stop 8) (hex_at stop 8)
-word_reads stop = fits_reads (λ n. fits_word n ≡ true) (hex_reads stop 8) (λ n h. lt-ltb n (2 ^ 32) h) (λ n h. ltb-true n (2 ^ 32) h)
+pub hex_word_reads : (stop : ℕ) → Reads (λ n. fits_word n ≡ true) (hex_field stop 8) (hex_at stop 8)
+hex_word_reads stop = fits_reads (λ n. fits_word n ≡ true) (hex_reads stop 8) (λ n h. lt-ltb n (2 ^ 32) h) (λ n h. ltb-true n (2 ^ 32) h)

@@ -3,13 +3,11 @@
 
 mod digits;
 mod entries;
-mod lines;
 mod texts;
 mod unread;
 mod words;
 
 pub use digits::{byte, digit, hex, long, number, own_number, sized, value, word};
 pub use entries::length_at;
-pub use lines::{Item, counted, fits, passed};
 pub use texts::{Word, any_word, literal, next};
 pub use unread::Unread;

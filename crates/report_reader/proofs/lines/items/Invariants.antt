@@ -1,7 +1,7 @@
 use Rattle.std.proofs.Common.{◌≡◌, ◌-◌, length}
 use Rattle.report_fields.specs.Parts.{items_at}
-use Rattle.report_fields.proofs.Items.{front}
-use Rattle.report_fields.proofs.lines.items.Given as goal
+use Rattle.report_reader.proofs.ReadItems.{front}
+use Rattle.report_reader.proofs.lines.items.Given as goal
 
 abbrev pub invariant-loop-i : goal.invariant-loop-i
 invariant-loop-i g l = record {

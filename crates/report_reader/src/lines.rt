@@ -2,9 +2,7 @@ ghost use Rattle.std.specs.Prelude.{◌≡◌, ◌<◌, ◌≤◌, ℕ, List, If
 ghost use Rattle.std.specs.Option.{option_map};
 ghost use Rattle.report_fields.specs.Parts.{Part, Gives, or_left, items_at, count_at, counted_at};
 
-use super::digits::number;
-use super::texts::literal;
-use super::unread::Unread;
+use report_fields::{Unread, literal, number};
 use std::alloc::{AllocError, Global};
 
 /// What a line's reader answered, or where the line stands that does not fit.
@@ -69,7 +67,7 @@ pub fn counted<'a, L: Item>(
 }
 
 /// The number of a line that says how many items follow.
-#[tactic(auto, unfolding(crate::specs::Parts::count_at))]
+#[tactic(auto, unfolding(report_fields::specs::Parts::count_at))]
 fn count_of<'a>(head: &[u8], least: u32, most: u32, bytes: &'a [u8]) -> Option<(u32, &'a [u8])>
     ensures count { option_map (λ x. (x.0, x.1.now)) result ≡ count_at head.now least most bytes.now }
     ensures most { IfSome result (λ x. x.0 ≤ most) }

@@ -1,7 +1,7 @@
 use Rattle.std.proofs.Common.{◌-◌, ◌∙◌, [], ◌∷◌, length-append, ℕ, List, Vec, Global, Bor, sym, arith}
 use Rattle.std.proofs.lemmas.Result.{err_from_is_err_and}
-use Rattle.report_fields.proofs.Items.{item_read, items_refused, pushed}
-use Rattle.report_fields.proofs.lines.items.Goals as goal
+use Rattle.report_reader.proofs.ReadItems.{item_read, items_refused, pushed}
+use Rattle.report_reader.proofs.lines.items.Goals as goal
 
 pub returns-in_err-item : goal.returns-in_err-item
 returns-in_err-item g c =
