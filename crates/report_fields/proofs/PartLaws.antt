@@ -50,7 +50,7 @@ before_part_reads {X} {Fits} {text} {at} {passed} {p} first second = record {
       let b = bind_ok (or_left a.0.1 (p a.0.1)) (λ r. Ok (a.0.0, r)) (x, rest) a.2 in
       let f = first.takes bytes a.0.0 a.0.1 a.1 in
       let whole : bytes ≡ (text a.0.0 ++ passed) ++ b.0 =
-          f.0 ∙ ap (λ (r : List ℕ). text a.0.0 ++ r) (second.takes a.0.1 b.0 (or_left_ok a.0.1 (p a.0.1) b.0 b.1)) ∙ sym (append_assoc (text a.0.0) passed b.0) in
+      f.0 ∙ ap (λ (r : List ℕ). text a.0.0 ++ r) (second.takes a.0.1 b.0 (or_left_ok a.0.1 (p a.0.1) b.0 b.1)) ∙ sym (append_assoc (text a.0.0) passed b.0) in
       subst (λ (w : X × List ℕ). (bytes ≡ (text w.0 ++ passed) ++ w.1) × Fits w.0) (ok_is (a.0.0, b.0) (x, rest) b.2) (whole, f.1);
   again = λ x rest fits.
       ap (before_part at p) (append_assoc (text x) passed rest) ∙ rw (first.again x (passed ++ rest) fits, second.again rest) refl;
@@ -65,7 +65,7 @@ then_part_reads {X} {Y} {F} {G} {s} {t} {p} {q} first second = record {
       let f = first.takes bytes a.0.0 a.0.1 a.1 in
       let g = (second a.0.0 f.1).takes a.0.1 b.0.0 b.0.1 b.1 in
       let whole : bytes ≡ (s a.0.0 ++ t a.0.0 b.0.0) ++ b.0.1 =
-          f.0 ∙ ap (λ (r : List ℕ). s a.0.0 ++ r) g.0 ∙ sym (append_assoc (s a.0.0) (t a.0.0 b.0.0) b.0.1) in
+      f.0 ∙ ap (λ (r : List ℕ). s a.0.0 ++ r) g.0 ∙ sym (append_assoc (s a.0.0) (t a.0.0 b.0.0) b.0.1) in
       subst (λ (w : (X × Y) × List ℕ). (bytes ≡ (s w.0.0 ++ t w.0.0 w.0.1) ++ w.1) × (F w.0.0 × G w.0.0 w.0.1)) (ok_is ((a.0.0, b.0.0), b.0.1) (z, rest) b.2) (whole, (f.1, g.1));
   again = λ z rest fits.
       ap (then_part p q) (append_assoc (s z.0) (t z.0 z.1) rest) ∙ rw (first.again z.0 (t z.0 z.1 ++ rest) fits.0, (second z.0 fits.0).again z.1 rest fits.1) refl;

@@ -24,6 +24,7 @@ some_reads stop = as_reads IsWord (word_field stop) Some (worth 0) (hex_reads st
     worth : ℕ → Option ℕ → ℕ
     worth d None = d
     worth d (Some w) = w
+
     ago : (v : Option ℕ) → IsWord v → (word_field stop v ≡ hex_field stop 8 (worth 0 v)) × ((Some (worth 0 v) ≡ v) × (worth 0 v < 16 ^ 8))
     ago None fits = absurd fits
     ago (Some w) fits = (refl, (refl, fits))
@@ -87,12 +88,12 @@ sized_back z h =
     elim (or_cases _ _ h.0) [
       | inl one ↦ inl (back 1 z one h.1 refl)
       | inr more ↦ elim (or_cases _ _ more) [
-          | inl two ↦ inr (inl (back 2 z two h.1 refl))
-          | inr most ↦ elim (or_cases _ _ most) [
-              | inl four ↦ inr (inr (inl (back 4 z four h.1 refl)))
-              | inr eight ↦ inr (inr (inr (back 8 z eight h.1 refl)))
-            ]
+        | inl two ↦ inr (inl (back 2 z two h.1 refl))
+        | inr most ↦ elim (or_cases _ _ most) [
+          | inl four ↦ inr (inr (inl (back 4 z four h.1 refl)))
+          | inr eight ↦ inr (inr (inr (back 8 z eight h.1 refl)))
         ]
+      ]
     ]
 
 pub sized_reads : (stop : ℕ) → stop < 48 → Reads (λ z. (is_length z.0 ≡ true) × (number_fits z.0 z.1 ≡ true)) (sized_field stop) (sized_at stop)
@@ -106,6 +107,7 @@ sized_reads stop below =
     longer : (z : ℕ × ℕ) → IsOf 4 z ⊎ IsOf 8 z → 4 < 2 * z.0
     longer z (inl h) = omega (arith, h.0)
     longer z (inr h) = omega (arith, h.0)
+
     longest : (z : ℕ × ℕ) → IsOf 2 z ⊎ (IsOf 4 z ⊎ IsOf 8 z) → 2 < 2 * z.0
     longest z (inl h) = omega (arith, h.0)
     longest z (inr (inl h)) = omega (arith, h.0)

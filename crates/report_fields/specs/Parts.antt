@@ -6,7 +6,6 @@ use Rattle.report_fields.specs.declared.unread.Unread.{Unread}
 use Rattle.report_fields.specs.declared.unread.Unread.TheVariants.{Memory, Left}
 
 infixl 10 ◌>=>◌
-
 abbrev pub Part : Type 0 → Type 0
 Part X = Result (X × List ℕ) ℕ
 

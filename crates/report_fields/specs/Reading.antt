@@ -4,7 +4,6 @@ use Rattle.std.specs.Prelude.{ℕ, ◌==◌, ◌∷◌, [], List, Bool, Option, 
 use Rattle.std.specs.Option.{option_map, option_or}
 
 infixl 10 ◌>>=◌
-
 abbrev pub Read : Type 0 → Type 0
 Read X = Option (X × List ℕ)
 

@@ -59,4 +59,3 @@ fn is_stop(end: CoreEnd, turn: u32) -> bool
         CoreEnd::Halt(_) | CoreEnd::Limit => false,
     }
 }
-

@@ -15,8 +15,9 @@ use Rattle.lf_model.specs.declared.bus.Transfer.{Transfer}
 use Rattle.lf_model.specs.declared.trace.CoreResult.{CoreResult}
 use Rattle.lf_model.specs.declared.trace.Op.{Op}
 use Rattle.report_fields.proofs.PartLaws.{items_text, AllFrom}
-use Rattle.report_reader.specs.Dashes.{shows_dashes, dashes, entry_length, entries_after, wrong_at, bare}
-use Rattle.report_reader.proofs.TransferLaws.{loose_line, TransferFits}
+use Rattle.report_lines.specs.TransferLine.{shows_dashes}
+use Rattle.report_reader.specs.Dashes.{dashes, entry_length, entries_after, wrong_at, bare}
+use Rattle.report_lines.proofs.TransferLaws.{loose_line, TransferFits}
 
 -- a transfer with the length that its dashes say
 abbrev pub with_dashes : List CoreResult → List Op → Transfer → Transfer
@@ -126,9 +127,10 @@ pub transfers_fit : (cores : List CoreResult) (entries : List Op) (i : ℕ) (ts 
 transfers_fit cores entries i [] fits turns = tt
 transfers_fit cores entries i (t ∷ ts) fits turns =
     let both = and_parts _ _ fits in
-    let place = turns_split i t ts turns in
-    ((place.0, ((and_parts _ _ both.0).0, dashes_fit t.kind t.words (shows_dashes t.kind t.words) (entry_length cores entries t == 8) (dashes (entry_length cores entries t) t) refl)),
-    transfers_fit cores (entries_after cores entries t) (i + 1) ts both.1 place.1)
+    let place = turns_split i t ts turns in (
+      (place.0, ((and_parts _ _ both.0).0, dashes_fit t.kind t.words (shows_dashes t.kind t.words) (entry_length cores entries t == 8) (dashes (entry_length cores entries t) t) refl)),
+      transfers_fit cores (entries_after cores entries t) (i + 1) ts both.1 place.1,
+    )
 
 pub bare_regular : (i : ℕ) (ts : List Transfer) → AllFrom TransferFits i ts → (list_all is_regular_transfer (map bare ts) ≡ true) × (map turn_of (map bare ts) ≡ range_with_len i (length (map bare ts)))
 bare_regular i [] fits = (refl, refl)

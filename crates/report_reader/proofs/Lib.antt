@@ -1,9 +1,5 @@
 pub mod Bare
-pub mod Pairs
 pub mod ReadItems
-pub mod CoreLaws
-pub mod TransferLaws
-pub mod OutcomeLaws
 pub mod DashLaws
 pub mod WholeLaws
 pub mod Told

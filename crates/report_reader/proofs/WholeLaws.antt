@@ -19,9 +19,9 @@ use Rattle.report_fields.proofs.Laws.{literal_passes}
 use Rattle.report_fields.proofs.PartLaws.{PartReads, line_part, then_part_reads, as_part_reads, past_part_reads, before_part_reads, counted_reads, counted_text, items_text, AllCounted, AllFrom, ok_is, err_ok}
 use Rattle.report_reader.specs.Whole.{ending_part_at, body_at, trace_of, lines_at, whole, line_of, numbered, loose_at}
 use Rattle.report_reader.specs.Dashes.{bare, bare_trace, wrong_at, judged, checked, report_at}
-use Rattle.report_reader.proofs.CoreLaws.{CoreFits, core_reads}
-use Rattle.report_reader.proofs.TransferLaws.{TransferFits, loose_line, transfer_reads}
-use Rattle.report_reader.proofs.OutcomeLaws.{StatusFits, status_reads, operation_reads, fate_reads, watched_reads}
+use Rattle.report_lines.proofs.CoreLaws.{CoreFits, core_reads}
+use Rattle.report_lines.proofs.TransferLaws.{TransferFits, loose_line, transfer_reads}
+use Rattle.report_lines.proofs.OutcomeLaws.{StatusFits, status_reads, operation_reads, fate_reads, watched_reads}
 use Rattle.report_reader.proofs.DashLaws.{dashed, length_dashed, lines_are, dashed_right, right_dashed, bare_dashed, transfers_fit, bare_regular}
 
 -- ---- what fits, and its text, transfers having the lengths that their dashes say
@@ -149,16 +149,16 @@ report_is t regular =
     let lines = lines_are t.cores (filter enters t.order) 0 t.transfers regular.turns in
     let long : length t.transfers ≡ length (ts_of t) = sym (length_dashed t.cores (filter enters t.order) t.transfers) in
     let cores : cores_part t.cores ≡ codes "leon3ft report 1\n" ++ counted_text (codes "cores ") core_lines t.cores =
-        ap (λ (w : List ℕ). codes "leon3ft report 1\n" ++ (count_line (codes "cores ") (length t.cores) ++ w)) (cores_are 0 t.cores) in
+    ap (λ (w : List ℕ). codes "leon3ft report 1\n" ++ (count_line (codes "cores ") (length t.cores) ++ w)) (cores_are 0 t.cores) in
     let transfers : transfers_part t ≡ counted_text (codes "transfers ") loose_line (ts_of t) =
-        ap (λ (w : List ℕ). count_line (codes "transfers ") (length t.transfers) ++ w) lines
-        ∙ ap (λ (n : ℕ). count_line (codes "transfers ") n ++ items_text loose_line 0 (ts_of t)) long in
+    ap (λ (w : List ℕ). count_line (codes "transfers ") (length t.transfers) ++ w) lines
+    ∙ ap (λ (n : ℕ). count_line (codes "transfers ") n ++ items_text loose_line 0 (ts_of t)) long in
     let order : order_part t.order ≡ counted_text (codes "order ") (λ i. op_line) t.order =
-        ap (λ (w : List ℕ). count_line (codes "order ") (length t.order) ++ w) (order_is 0 t.order) in
+    ap (λ (w : List ℕ). count_line (codes "order ") (length t.order) ++ w) (order_is 0 t.order) in
     let flips : flips_part t.fates ≡ counted_text (codes "flips ") fate_line t.fates =
-        ap (λ (w : List ℕ). count_line (codes "flips ") (length t.fates) ++ w) (fates_are 0 t.fates) in
+    ap (λ (w : List ℕ). count_line (codes "flips ") (length t.fates) ++ w) (fates_are 0 t.fates) in
     let watch : watch_part t.watch ≡ counted_text (codes "watch ") (λ i. watch_line) t.watch =
-        ap (λ (w : List ℕ). count_line (codes "watch ") (length t.watch) ++ w) (watch_is 0 t.watch) in
+    ap (λ (w : List ℕ). count_line (codes "watch ") (length t.watch) ++ w) (watch_is 0 t.watch) in
     joined (codes "leon3ft report 1\n") (counted_text (codes "cores ") core_lines t.cores) (ahb_line t.ahb_addr t.ahb_status) (codes "end\n") cores transfers order flips watch
 
 -- ---- regular traces
@@ -185,12 +185,22 @@ least_0 n = le-leb 0 n (omega arith)
 pub regular_fits : (t : Trace) → IsRegular t → LooseFits (dashed_trace t)
 regular_fits t h =
     let n : ℕ = length t.cores in
-    let long : length (ts_of t) ≡ length t.transfers = length_dashed t.cores (filter enters t.order) t.transfers in
-    (((h.few_cores, le-leb 1 n h.some_core), all_cores n 0 t.cores h.cores h.few_steps), (and_parts _ _ h.status,
-    (((omega (arith, long, h.few_transfers), least_0 (length (ts_of t))), transfers_fit t.cores (filter enters t.order) 0 t.transfers h.transfers h.turns),
-    (((h.few_operations, least_0 (length t.order)), from_all (λ i o. is_regular_op o ≡ true) is_regular_op (λ i o e. e) 0 t.order h.operations),
-    (((h.few_fates, least_0 (length t.fates)), all_fates 0 t.fates),
-    ((h.few_words, least_0 (length t.watch)), from_all (λ i w. is_regular_word w ≡ true) is_regular_word (λ i w e. e) 0 t.watch h.words))))))
+    let long : length (ts_of t) ≡ length t.transfers = length_dashed t.cores (filter enters t.order) t.transfers in (
+      ((h.few_cores, le-leb 1 n h.some_core), all_cores n 0 t.cores h.cores h.few_steps),
+      (
+        and_parts _ _ h.status,
+        (
+          ((omega (arith, long, h.few_transfers), least_0 (length (ts_of t))), transfers_fit t.cores (filter enters t.order) 0 t.transfers h.transfers h.turns),
+          (
+            ((h.few_operations, least_0 (length t.order)), from_all (λ i o. is_regular_op o ≡ true) is_regular_op (λ i o e. e) 0 t.order h.operations),
+            (
+              ((h.few_fates, least_0 (length t.fates)), all_fates 0 t.fates),
+              ((h.few_words, least_0 (length t.watch)), from_all (λ i w. is_regular_word w ≡ true) is_regular_word (λ i w e. e) 0 t.watch h.words),
+            ),
+          ),
+        ),
+      ),
+    )
 
 pub bare_is_regular : (t : Trace) → LooseFits t → IsRegular (bare_trace t)
 bare_is_regular t h =
@@ -248,7 +258,7 @@ pub one_report : (t u : Trace) (more : List ℕ) → IsRegular t → IsRegular u
 one_report t u more first second e =
     let a : lines_at (report t ++ more) ≡ Ok (dashed_trace t, more) = ap (λ (w : List ℕ). lines_at (w ++ more)) (report_is t first) ∙ lines_reads.again (dashed_trace t) more (regular_fits t first) in
     let b : lines_at (report u) ≡ Ok (dashed_trace u, []) =
-        ap lines_at (report_is u second ∙ sym (append-nil (loose_text (dashed_trace u)))) ∙ lines_reads.again (dashed_trace u) [] (regular_fits u second) in
+    ap lines_at (report_is u second ∙ sym (append-nil (loose_text (dashed_trace u)))) ∙ lines_reads.again (dashed_trace u) [] (regular_fits u second) in
     let pair : ◌≡◌ {A = Trace × List ℕ} (dashed_trace t, more) (dashed_trace u, []) = ok_is (dashed_trace t, more) (dashed_trace u, []) (sym a ∙ ap lines_at e ∙ b) in
     let none : more ≡ [] = ap (λ (w : Trace × List ℕ). w.1) pair in
     let same : report t ≡ report u = sym (append-nil (report t)) ∙ ap (λ (w : List ℕ). report t ++ w) (sym none) ∙ e in

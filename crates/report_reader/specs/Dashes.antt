@@ -1,26 +1,15 @@
 -- The dashes of stores that read no word: four for a store of 8 bytes, else two. While a report is read, the length of a transfer
 -- is what its dashes say, 8 or 0; in a trace it is 0.
-use Rattle.std.specs.Prelude.{ℕ, ◌+◌, ◌*◌, ◌==◌, ◌&&◌, ◌∷◌, [], List, length, filter, drop, map, slice_get, Bool, false, Option, Some, None, Result, Ok, Err, if◌then◌else◌}
+use Rattle.std.specs.Prelude.{ℕ, ◌+◌, ◌*◌, ◌==◌, ◌&&◌, ◌∷◌, [], List, length, filter, drop, map, slice_get, Option, Some, None, Result, Ok, Err, if◌then◌else◌}
 use Rattle.std.specs.Option.{option_map_or}
 use Rattle.lf_model.specs.Operation.{enters}
 use Rattle.lf_model.specs.TransferLines.{has_entry, length_of}
-use Rattle.lf_model.specs.declared.bus.TurnKind.{TurnKind}
-use Rattle.lf_model.specs.declared.bus.TurnKind.TheVariants.{Fetch, Load, Store, Atomic, Snoop, Look, Fix}
 use Rattle.lf_model.specs.declared.bus.Transfer.{Transfer}
 use Rattle.lf_model.specs.declared.trace.CoreResult.{CoreResult}
 use Rattle.lf_model.specs.declared.trace.Op.{Op}
 use Rattle.lf_model.specs.declared.trace.Trace.{Trace}
+use Rattle.report_lines.specs.TransferLine.{shows_dashes}
 use Rattle.report_reader.specs.Whole.{loose_at}
-
--- a store that read no word
-abbrev pub shows_dashes : TurnKind → ℕ → Bool
-shows_dashes Fetch words = false
-shows_dashes Load words = false
-shows_dashes Store words = words == 0
-shows_dashes Atomic words = false
-shows_dashes Snoop words = false
-shows_dashes Look words = false
-shows_dashes Fix words = false
 
 -- what the dashes of a transfer say whose entry has this length
 abbrev pub dashes : ℕ → Transfer → ℕ

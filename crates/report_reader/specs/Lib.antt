@@ -1,6 +1,3 @@
-pub mod CoreLines
-pub mod TransferLine
-pub mod OutcomeLines
 pub mod Whole
 pub mod Dashes
 pub mod Answer

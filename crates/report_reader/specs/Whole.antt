@@ -10,9 +10,9 @@ use Rattle.lf_model.specs.declared.trace.Word2.{Word2}
 use Rattle.lf_model.specs.declared.trace.Trace.{Trace}
 use Rattle.report_fields.specs.Reading.{without}
 use Rattle.report_fields.specs.Parts.{Part, line_at, then_part, as_part, past_part, before_part, counted_at}
-use Rattle.report_reader.specs.CoreLines.{core_at}
-use Rattle.report_reader.specs.TransferLine.{transfer_at}
-use Rattle.report_reader.specs.OutcomeLines.{status_at, operation_at, fate_at, watched_at}
+use Rattle.report_lines.specs.CoreLines.{core_at}
+use Rattle.report_lines.specs.TransferLine.{transfer_at}
+use Rattle.report_lines.specs.OutcomeLines.{status_at, operation_at, fate_at, watched_at}
 
 -- what became of the flips, the watched words, and the last line
 unfoldable pub ending_part_at : List ℕ → Part (List Fate × List Word2)
@@ -26,7 +26,13 @@ body_at bytes = then_part (counted_at (codes "transfers ") 0 5000064 (λ n i. li
 
 abbrev pub trace_of : List CoreResult → ℕ × ℕ → List Transfer × (List Op × (List Fate × List Word2)) → Trace
 trace_of cores status body = record {
-  cores = cores; ahb_addr = status.0; ahb_status = status.1; transfers = body.0; order = body.1.0; fates = body.1.1.0; watch = body.1.1.1;
+  cores = cores;
+  ahb_addr = status.0;
+  ahb_status = status.1;
+  transfers = body.0;
+  order = body.1.0;
+  fates = body.1.1.0;
+  watch = body.1.1.1;
 }
 
 -- the first line, the cores, the AHB status registers, and what follows

@@ -1,24 +1,22 @@
 ghost use Rattle.std.specs.Prelude.{◌≡◌, ℕ, List};
 ghost use Rattle.report_fields.specs.Parts.{Gives};
-ghost use Rattle.report_reader.specs.CoreLines.{core_at};
+ghost use Rattle.report_lines.specs.CoreLines.{core_at};
 
-use crate::endings::end_line;
-use crate::output::output_line;
-use crate::registers::{control_line, parity_line, registers};
+use crate::lines::Item;
 use lf_model::listed::Listed;
 use lf_model::trace::CoreResult;
-use crate::lines::{Item, fits};
 use report_fields::Unread;
+use report_lines::{control_line, end_line, fits, output_line, parity_line, register_lines};
 use std::alloc::Global;
 
 /// The eight lines of core `k` of `cores`.
-#[tactic(auto, unfolding(crate::specs::CoreLines::core_at))]
+#[tactic(auto, unfolding(report_lines::specs::CoreLines::core_at))]
 fn core(alloc: Global, cores: u32, k: u32, bytes: &[u8]) -> Result<(CoreResult, &[u8]), Unread>
     ensures read { Gives (λ x. (x.0, x.1.now)) result (core_at cores k bytes.now) }
 {
     let (ending, rest) = fits(bytes, end_line(cores, k, bytes))?;
     let (out, rest) = output_line(alloc, k, rest)?;
-    let (regs, rest) = registers(alloc, k, rest)?;
+    let (regs, rest) = register_lines(alloc, k, rest)?;
     let (control, rest) = fits(rest, control_line(k, rest))?;
     let (parity, rest) = fits(rest, parity_line(k, rest))?;
     let core = CoreResult {
@@ -39,7 +37,7 @@ fn core(alloc: Global, cores: u32, k: u32, bytes: &[u8]) -> Result<(CoreResult, 
 }
 
 impl Item for CoreResult {
-    ghost use Rattle.report_reader.specs.CoreLines.{core_at};
+    ghost use Rattle.report_lines.specs.CoreLines.{core_at};
 
     ghost at = { core_at };
 

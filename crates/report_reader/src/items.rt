@@ -1,14 +1,13 @@
-use crate::outcome::{fate, operation, watched};
-use crate::transfer::transfer_line;
+use crate::lines::Item;
 use lf_model::bus::Transfer;
 use lf_model::trace::{Fate, Op, Word2};
-use crate::lines::{Item, fits};
 use report_fields::Unread;
+use report_lines::{fate, fits, operation, transfer_line, watched};
 use std::alloc::Global;
 
 impl Item for Transfer {
     ghost use Rattle.report_fields.specs.Parts.{line_at};
-    ghost use Rattle.report_reader.specs.TransferLine.{transfer_at};
+    ghost use Rattle.report_lines.specs.TransferLine.{transfer_at};
 
     ghost at = { λ count i. line_at (transfer_at i) };
 
@@ -19,7 +18,7 @@ impl Item for Transfer {
 
 impl Item for Op {
     ghost use Rattle.report_fields.specs.Parts.{line_at};
-    ghost use Rattle.report_reader.specs.OutcomeLines.{operation_at};
+    ghost use Rattle.report_lines.specs.OutcomeLines.{operation_at};
 
     ghost at = { λ count i. line_at operation_at };
 
@@ -30,7 +29,7 @@ impl Item for Op {
 
 impl Item for Fate {
     ghost use Rattle.report_fields.specs.Parts.{line_at};
-    ghost use Rattle.report_reader.specs.OutcomeLines.{fate_at};
+    ghost use Rattle.report_lines.specs.OutcomeLines.{fate_at};
 
     ghost at = { λ count i. line_at (fate_at i) };
 
@@ -41,7 +40,7 @@ impl Item for Fate {
 
 impl Item for Word2 {
     ghost use Rattle.report_fields.specs.Parts.{line_at};
-    ghost use Rattle.report_reader.specs.OutcomeLines.{watched_at};
+    ghost use Rattle.report_lines.specs.OutcomeLines.{watched_at};
 
     ghost at = { λ count i. line_at watched_at };
 

@@ -28,11 +28,9 @@ pub fn read_report(alloc: Global, bytes: &[u8]) -> Result<Trace, ReportErr>
 /// Regular traces with equal reports are equal. It does nothing: its clause is the law.
 pub fn equal_texts_have_equal_traces()
     ensures law { EqualTextsEqualTraces }
-{
-}
+{}
 
 /// No report is the beginning of another. It does nothing: its clause is the law.
 pub fn no_report_begins_another()
     ensures law { NoReportBeginsAnother }
-{
-}
+{}

@@ -4,12 +4,12 @@ ghost use Rattle.report_reader.specs.Whole.{ending_part_at, body_at, lines_at, l
 ghost use Rattle.report_reader.specs.Answer.{Tells};
 
 use crate::error::ReportErr;
-use crate::outcome::status;
+use crate::lines::counted;
 use lf_model::bus::Transfer;
 use lf_model::listed::Listed;
 use lf_model::trace::{CoreResult, Fate, Fates, Op, Ops, Trace, Transfers, Word2, Words2};
-use crate::lines::{counted, fits, passed};
 use report_fields::{Unread, literal};
+use report_lines::{fits, passed, status};
 use std::alloc::Global;
 
 /// What became of the flips, the watched words, and the last line.

@@ -5,7 +5,7 @@ use Rattle.std.proofs.lemmas.Option.{none-some, some_pair_parts}
 use Rattle.std.specs.Prelude.{Option, Some, None}
 use Rattle.report_fields.specs.Reading.{Read, ◌>>=◌}
 use Rattle.report_fields.specs.Digits.{digit_of}
-use Rattle.report_reader.specs.CoreLines.{pair_at, pairs_at}
+use Rattle.report_lines.specs.CoreLines.{pair_at, pairs_at}
 
 abbrev pub ahead : List ℕ → Read (List ℕ) → Read (List ℕ)
 ahead xs None = None

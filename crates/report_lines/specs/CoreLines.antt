@@ -6,10 +6,10 @@ use Rattle.lf_model.specs.declared.trace.Four.{Four}
 use Rattle.report_fields.specs.Reading.{Read, ◌>>=◌, without, past, then_at, as_at, kept, either, row, word_at}
 use Rattle.report_fields.specs.Digits.{any, number_at, own_at, digit_of, hex_at, value_at}
 use Rattle.report_fields.specs.Parts.{Part, line_at, then_part, as_part}
-use Rattle.report_reader.specs.declared.endings.EndWord.{EndWord}
-use Rattle.report_reader.specs.declared.endings.EndWord.TheVariants.{Halt, Stop, Limit}
-use Rattle.report_reader.specs.declared.endings.Ending.{Ending}
-use Rattle.report_reader.specs.declared.registers.Control.{Control}
+use Rattle.report_lines.specs.declared.endings.EndWord.{EndWord}
+use Rattle.report_lines.specs.declared.endings.EndWord.TheVariants.{Halt, Stop, Limit}
+use Rattle.report_lines.specs.declared.endings.Ending.{Ending}
+use Rattle.report_lines.specs.declared.registers.Control.{Control}
 
 -- ---- how the core ended
 
@@ -112,8 +112,17 @@ parity_at k bytes = past (without (codes "parity ")) (past (own_at 32 k)
 
 abbrev pub result_of : Ending → List ℕ → List (Option ℕ) → Control → Four → CoreResult
 result_of ending out regs control parity = record {
-  end = ending.end; n = ending.n; steps = ending.steps; out = out; regs = regs;
-  psr = control.psr; wim = control.wim; tbr = control.tbr; y = control.y; pc = control.pc; npc = control.npc;
+  end = ending.end;
+  n = ending.n;
+  steps = ending.steps;
+  out = out;
+  regs = regs;
+  psr = control.psr;
+  wim = control.wim;
+  tbr = control.tbr;
+  y = control.y;
+  pc = control.pc;
+  npc = control.npc;
   parity = parity;
 }
 

@@ -2,7 +2,7 @@ ghost use Rattle.std.specs.Prelude.{◌≡◌, ℕ};
 ghost use Rattle.std.specs.Option.{option_map};
 ghost use Rattle.lf_model.specs.Report.{letter_of, fate_word};
 ghost use Rattle.report_fields.specs.Reading.{word_at};
-ghost use Rattle.report_reader.specs.OutcomeLines.{status_at, op_kinds, loaded_at, stored_at, swapped_at, operands_at, operation_at, fates, fate_at, watched_at};
+ghost use Rattle.report_lines.specs.OutcomeLines.{status_at, op_kinds, loaded_at, stored_at, swapped_at, operands_at, operation_at, fates, fate_at, watched_at};
 
 use crate::operands::Operands;
 use lf_model::bus::OpKind;
@@ -27,7 +27,10 @@ pub fn status(bytes: &[u8]) -> Option<((u32, u32), &[u8])>
 fn letter(bytes: &[u8]) -> Option<(OpKind, &[u8])>
     ensures read { option_map (λ x. (x.0, x.1.now)) result ≡ word_at letter_of op_kinds bytes.now }
 {
-    any_word(&[OpKind::Load, OpKind::Store, OpKind::Atomic, OpKind::Lost], bytes)
+    any_word(
+        &[OpKind::Load, OpKind::Store, OpKind::Atomic, OpKind::Lost],
+        bytes,
+    )
 }
 
 /// What a load read, and its way.

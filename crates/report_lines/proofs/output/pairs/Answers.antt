@@ -1,6 +1,6 @@
 use Rattle.std.proofs.Common.{sym}
-use Rattle.report_reader.proofs.Pairs.{pushed_on}
-use Rattle.report_reader.proofs.output.pairs.Goals as goal
+use Rattle.report_lines.proofs.Pairs.{pushed_on}
+use Rattle.report_lines.proofs.output.pairs.Goals as goal
 
 pub loop-first-preserved : goal.loop-first-preserved
 loop-first-preserved c =

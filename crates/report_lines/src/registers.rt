@@ -2,10 +2,10 @@ ghost use Rattle.std.specs.Prelude.{◌≡◌, ◌++◌, ℕ, IfOk, codes};
 ghost use Rattle.std.specs.Option.{option_map};
 ghost use Rattle.report_fields.specs.Digits.{number_at};
 ghost use Rattle.report_fields.specs.Parts.{Gives};
-ghost use Rattle.report_reader.specs.CoreLines.{values_at, words_at, registers_at, control_at, parity_at};
+ghost use Rattle.report_lines.specs.CoreLines.{values_at, words_at, registers_at, control_at, parity_at};
 
+use crate::left::fits;
 use lf_model::trace::Four;
-use crate::lines::fits;
 use report_fields::{Unread, literal, number, own_number, value, word};
 use std::alloc::{AllocError, Global};
 
@@ -49,7 +49,13 @@ fn words<'a>(head: &[u8], k: u32, bytes: &'a [u8]) -> Option<(Eight, &'a [u8])>
 }
 
 /// Registers in the order of their numbers: globals, outs, locals and ins.
-fn in_order(alloc: Global, g: &Eight, o: &Eight, l: &Eight, i: &Eight) -> Result<Vec<Option<u32>>, AllocError>
+fn in_order(
+    alloc: Global,
+    g: &Eight,
+    o: &Eight,
+    l: &Eight,
+    i: &Eight,
+) -> Result<Vec<Option<u32>>, AllocError>
     ensures words { IfOk result (λ v. v.items ≡ g.now ++ (o.now ++ (l.now ++ i.now))) }
 {
     let mut registers = Vec::new(alloc);
@@ -62,7 +68,11 @@ fn in_order(alloc: Global, g: &Eight, o: &Eight, l: &Eight, i: &Eight) -> Result
 
 /// The lines of the globals, outs, locals and ins of core `k`.
 #[tactic(auto, unfolding(crate::specs::CoreLines::registers_at))]
-pub fn registers(alloc: Global, k: u32, bytes: &[u8]) -> Result<(Vec<Option<u32>>, &[u8]), Unread>
+pub fn register_lines(
+    alloc: Global,
+    k: u32,
+    bytes: &[u8],
+) -> Result<(Vec<Option<u32>>, &[u8]), Unread>
     ensures read { Gives (λ x. (x.0.items, x.1.now)) result (registers_at k bytes.now) }
 {
     let (g, rest) = fits(bytes, words(b"g ", k, bytes))?;

@@ -1,7 +1,7 @@
 ghost use Rattle.std.specs.Prelude.{◌≡◌, ℕ};
 ghost use Rattle.std.specs.Option.{option_map};
 ghost use Rattle.report_fields.specs.Reading.{word_at};
-ghost use Rattle.report_reader.specs.CoreLines.{end_word, end_words, few_steps, fields_at, ending_at};
+ghost use Rattle.report_lines.specs.CoreLines.{end_word, end_words, few_steps, fields_at, ending_at};
 
 use lf_model::trace::CoreEnd;
 use report_fields::{Word, any_word, byte, literal, number, own_number};
@@ -21,7 +21,7 @@ pub enum EndWord {
 }
 
 impl Word for EndWord {
-    ghost use Rattle.report_reader.specs.CoreLines.{end_word};
+    ghost use Rattle.report_lines.specs.CoreLines.{end_word};
 
     ghost text = { end_word };
 

@@ -3,7 +3,7 @@ ghost use Rattle.std.specs.Option.{option_map};
 ghost use Rattle.lf_model.specs.TransferLines.{kind_word, why_word};
 ghost use Rattle.lf_model.specs.Promise.RegularTransfer.{causes_of};
 ghost use Rattle.report_fields.specs.Reading.{word_at};
-ghost use Rattle.report_reader.specs.TransferLine.{kinds, no_words, address_at, way_at, line_syndromes_at, word_syndrome_at, store_syndrome_at, snoop_at, syndromes_at, transfer_at};
+ghost use Rattle.report_lines.specs.TransferLine.{kinds, no_words, address_at, way_at, line_syndromes_at, word_syndrome_at, store_syndrome_at, snoop_at, syndromes_at, transfer_at};
 
 use crate::syndromes::Syndromes;
 use lf_model::bus::{Transfer, TurnKind, Why};

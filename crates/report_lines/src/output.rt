@@ -1,7 +1,7 @@
 ghost use Rattle.std.specs.Prelude.{◌≡◌, ℕ, List, IfOk};
 ghost use Rattle.std.specs.Option.{option_map};
 ghost use Rattle.report_fields.specs.Parts.{Gives, line_at};
-ghost use Rattle.report_reader.specs.CoreLines.{pair_at, pairs_at, bytes_at, output_head, output_at};
+ghost use Rattle.report_lines.specs.CoreLines.{pair_at, pairs_at, bytes_at, output_head, output_at};
 
 use report_fields::{Unread, digit, literal, next, own_number};
 use std::alloc::{AllocError, Global};
@@ -45,7 +45,11 @@ fn written(alloc: Global, bytes: &[u8]) -> Result<Option<(Vec<u8>, &[u8])>, Allo
     let Some((out, rest)) = pairs(alloc, bytes)? else {
         return Ok(None);
     };
-    if out.is_empty() { Ok(None) } else { Ok(Some((out, rest))) }
+    if out.is_empty() {
+        Ok(None)
+    } else {
+        Ok(Some((out, rest)))
+    }
 }
 
 /// What follows the first word of the line and the number of the core.

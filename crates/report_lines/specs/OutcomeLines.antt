@@ -9,7 +9,7 @@ use Rattle.lf_model.specs.declared.trace.Op.{Op}
 use Rattle.lf_model.specs.declared.trace.Word2.{Word2}
 use Rattle.report_fields.specs.Reading.{Read, without, past, then_at, as_at, word_at}
 use Rattle.report_fields.specs.Digits.{any, number_at, own_at, hex_at, value_at, sized_at}
-use Rattle.report_reader.specs.declared.operands.Operands.{Operands}
+use Rattle.report_lines.specs.declared.operands.Operands.{Operands}
 
 -- ADDR STATUS
 unfoldable pub status_at : List ℕ → Read (ℕ × ℕ)
@@ -38,8 +38,15 @@ operands_at Lost = stored_at
 
 unfoldable pub operation_at : List ℕ → Read Op
 operation_at bytes = as_at (λ z. record {
-  got = z.1.1.1.1.1.got; put = z.1.1.1.1.1.put; core = z.1.0; k = z.1.1.0; step = z.1.1.1.0; addr = z.1.1.1.1.0; kind = z.0;
-  len = z.1.1.1.1.1.len; way = z.1.1.1.1.1.way;
+  got = z.1.1.1.1.1.got;
+  put = z.1.1.1.1.1.put;
+  core = z.1.0;
+  k = z.1.1.0;
+  step = z.1.1.1.0;
+  addr = z.1.1.1.1.0;
+  kind = z.0;
+  len = z.1.1.1.1.1.len;
+  way = z.1.1.1.1.1.way;
 }) (then_at (word_at letter_of op_kinds) (λ kind. then_at (number_at 32 any) (λ core. then_at (number_at 32 any) (λ k.
     then_at (number_at 32 any) (λ step. then_at (hex_at 32 8) (λ addr. operands_at kind)))))) bytes
 

@@ -1,6 +1,6 @@
 -- How the line of a transfer is read. Of a store that read no word the length is read off its dashes, 8 or else 0; of any other
 -- transfer it is 0.
-use Rattle.std.specs.Prelude.{ℕ, ◌*◌, ◌^◌, ◌∷◌, [], List, codes}
+use Rattle.std.specs.Prelude.{ℕ, ◌*◌, ◌^◌, ◌==◌, ◌∷◌, [], List, Bool, false, codes}
 use Rattle.lf_model.specs.TransferLines.{kind_word, why_word}
 use Rattle.lf_model.specs.Promise.RegularTransfer.{causes_of, address_fits}
 use Rattle.lf_model.specs.declared.bus.TurnKind.{TurnKind}
@@ -8,7 +8,7 @@ use Rattle.lf_model.specs.declared.bus.TurnKind.TheVariants.{Fetch, Load, Store,
 use Rattle.lf_model.specs.declared.bus.Transfer.{Transfer}
 use Rattle.report_fields.specs.Reading.{Read, without, past, then_at, as_at, kept, either, row, word_at}
 use Rattle.report_fields.specs.Digits.{any, number_at, own_at, hex_at}
-use Rattle.report_reader.specs.declared.syndromes.Syndromes.{Syndromes}
+use Rattle.report_lines.specs.declared.syndromes.Syndromes.{Syndromes}
 
 abbrev pub kinds : List TurnKind
 kinds = Fetch ∷ Load ∷ Store ∷ Atomic ∷ Snoop ∷ Look ∷ Fix ∷ []
@@ -48,6 +48,16 @@ no_words len = record { syn = 0; words = 0; len = len }
 unfoldable pub store_syndrome_at : List ℕ → Read Syndromes
 store_syndrome_at bytes = either (row (codes "----\n") (no_words 8)) (either (row (codes "--\n") (no_words 0)) word_syndrome_at) bytes
 
+-- a store that read no word
+abbrev pub shows_dashes : TurnKind → ℕ → Bool
+shows_dashes Fetch words = false
+shows_dashes Load words = false
+shows_dashes Store words = words == 0
+shows_dashes Atomic words = false
+shows_dashes Snoop words = false
+shows_dashes Look words = false
+shows_dashes Fix words = false
+
 unfoldable pub snoop_at : List ℕ → Read Syndromes
 snoop_at bytes = row (codes "-\n") (no_words 0) bytes
 
@@ -62,8 +72,16 @@ syndromes_at Fix = word_syndrome_at
 
 unfoldable pub transfer_at : ℕ → List ℕ → Read Transfer
 transfer_at turn bytes = past (without (codes "t ")) (past (own_at 32 turn) (as_at (λ z. record {
-  syn = z.1.1.1.1.1.1.syn; turn = turn; master = z.0; step = z.1.0; addr = z.1.1.1.1.0; kind = z.1.1.0; why = z.1.1.1.0;
-  way = z.1.1.1.1.1.0; words = z.1.1.1.1.1.1.words; len = z.1.1.1.1.1.1.len;
+  syn = z.1.1.1.1.1.1.syn;
+  turn = turn;
+  master = z.0;
+  step = z.1.0;
+  addr = z.1.1.1.1.0;
+  kind = z.1.1.0;
+  why = z.1.1.1.0;
+  way = z.1.1.1.1.1.0;
+  words = z.1.1.1.1.1.1.words;
+  len = z.1.1.1.1.1.1.len;
 }) (then_at (number_at 32 any) (λ master. then_at (number_at 32 any) (λ step. then_at (word_at kind_word kinds) (λ kind.
     then_at (word_at why_word (causes_of kind)) (λ why. then_at (address_at kind) (λ addr. then_at (way_at kind) (λ way.
     syndromes_at kind))))))))) bytes

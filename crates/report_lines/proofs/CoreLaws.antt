@@ -20,14 +20,14 @@ use Rattle.report_fields.specs.Digits.{number_at, digit_of, hex_more}
 use Rattle.report_fields.proofs.Laws.{Reads, past_reads, then_reads, as_reads, kept_reads, either_reads, row_reads, fits_reads, text_reads, word_reads, literal_passes, bind_some}
 use Rattle.report_fields.proofs.Decimal.{own_passes}
 use Rattle.report_fields.proofs.Hexadecimal.{digits_reads, glyph_digit, glyph_above}
-use Rattle.report_reader.proofs.Pairs.{pairs_end}
+use Rattle.report_lines.proofs.Pairs.{pairs_end}
 use Rattle.report_fields.proofs.Values.{any_reads, up_to_reads, byte_reads, hex_word_reads, value_reads}
 use Rattle.report_fields.proofs.PartLaws.{PartReads, line_part, then_part_reads, as_part_reads}
-use Rattle.report_reader.specs.declared.endings.EndWord.{EndWord}
-use Rattle.report_reader.specs.declared.endings.EndWord.TheVariants.{Halt, Stop, Limit}
-use Rattle.report_reader.specs.declared.endings.Ending.{Ending}
-use Rattle.report_reader.specs.declared.registers.Control.{Control}
-use Rattle.report_reader.specs.CoreLines.{end_word, end_words, halt_at, stop_at, limit_at, fields_at, few_steps, ending_at, pairs_at, is_some_list, bytes_at, output_at, values_at, words_at, registers_at, control_at, parity_at, result_of, core_at}
+use Rattle.report_lines.specs.declared.endings.EndWord.{EndWord}
+use Rattle.report_lines.specs.declared.endings.EndWord.TheVariants.{Halt, Stop, Limit}
+use Rattle.report_lines.specs.declared.endings.Ending.{Ending}
+use Rattle.report_lines.specs.declared.registers.Control.{Control}
+use Rattle.report_lines.specs.CoreLines.{end_word, end_words, halt_at, stop_at, limit_at, fields_at, few_steps, ending_at, pairs_at, is_some_list, bytes_at, output_at, values_at, words_at, registers_at, control_at, parity_at, result_of, core_at}
 
 -- ---- how the core ended
 
@@ -229,7 +229,7 @@ registers_there k g o l i hg ho hl hi =
     let last : take 8 (drop 24 whole) ≡ i = ap (take 8) from24 ∙ take_all i 8 hi.0 in
     let long : length whole ≡ 32 = omega (arith, length-append g (o ++ (l ++ i)), length-append o (l ++ i), length-append l i, hg.0, ho.0, hl.0, hi.0) in
     let fit : list_all value_fits whole ≡ true =
-        list_all-append value_fits g (o ++ (l ++ i)) ∙ and_from _ _ hg.1 (list_all-append value_fits o (l ++ i) ∙ and_from _ _ ho.1 (list_all-append value_fits l i ∙ and_from _ _ hl.1 hi.1)) in
+    list_all-append value_fits g (o ++ (l ++ i)) ∙ and_from _ _ hg.1 (list_all-append value_fits o (l ++ i) ∙ and_from _ _ ho.1 (list_all-append value_fits l i ∙ and_from _ _ hl.1 hi.1)) in
     (rw (first, second, third, last) refl, (long, fit))
 
 parts_fit : (n : ℕ) (vs : List (Option ℕ)) → list_all value_fits vs ≡ true → (list_all value_fits (take n vs) ≡ true) × (list_all value_fits (drop n vs) ≡ true)
@@ -251,9 +251,16 @@ registers_back regs h =
     let last : take 8 (drop 24 regs) ≡ drop 24 regs = take_all (drop 24 regs) 8 len24 in
     let third : take 8 (drop 16 regs) ++ take 8 (drop 24 regs) ≡ drop 16 regs = ap (λ (r : List (Option ℕ)). take 8 (drop 16 regs) ++ r) (last ∙ sym from24) ∙ take-append-drop 8 (drop 16 regs) in
     let second : take 8 (drop 8 regs) ++ (take 8 (drop 16 regs) ++ take 8 (drop 24 regs)) ≡ drop 8 regs = ap (λ (r : List (Option ℕ)). take 8 (drop 8 regs) ++ r) (third ∙ sym from16) ∙ take-append-drop 8 (drop 8 regs) in
-    let first : take 8 regs ++ (take 8 (drop 8 regs) ++ (take 8 (drop 16 regs) ++ take 8 (drop 24 regs))) ≡ regs = ap (λ (r : List (Option ℕ)). take 8 regs ++ r) second ∙ take-append-drop 8 regs in
-    (first, ((length-take-le 8 regs (omega (arith, h.0)), a.0), ((length-take-le 8 (drop 8 regs) (omega (arith, len8)), b.0),
-    ((length-take-le 8 (drop 16 regs) (omega (arith, len16)), c.0), (length-take-le 8 (drop 24 regs) (omega (arith, len24)), d.0)))))
+    let first : take 8 regs ++ (take 8 (drop 8 regs) ++ (take 8 (drop 16 regs) ++ take 8 (drop 24 regs))) ≡ regs = ap (λ (r : List (Option ℕ)). take 8 regs ++ r) second ∙ take-append-drop 8 regs in (
+      first,
+      (
+        (length-take-le 8 regs (omega (arith, h.0)), a.0),
+        (
+          (length-take-le 8 (drop 8 regs) (omega (arith, len8)), b.0),
+          ((length-take-le 8 (drop 16 regs) (omega (arith, len16)), c.0), (length-take-le 8 (drop 24 regs) (omega (arith, len24)), d.0)),
+        ),
+      ),
+    )
 
 registers_reads : (k : ℕ) → k < 2 ^ 32 → PartReads AllRegisters (registers_text k) (registers_at k)
 unfolding registers_at
@@ -334,7 +341,7 @@ pairs_take (b ∷ c ∷ bytes) bs rest e =
           let shown = (digits_reads 2).takes (b ∷ c ∷ bytes) value bytes pair in
           let ih = pairs_take bytes more.0.0 more.0.1 more.1 in
           let text : b ∷ c ∷ bytes ≡ pairs_text (value ∷ more.0.0) ++ more.0.1 =
-              shown.0 ∙ ap (λ (r : List ℕ). hex 2 value ++ r) ih.0 ∙ joined (hex 2 value) (flat_map (hex 2) more.0.0) more.0.1 in
+          shown.0 ∙ ap (λ (r : List ℕ). hex 2 value ++ r) ih.0 ∙ joined (hex 2 value) (flat_map (hex 2) more.0.0) more.0.1 in
           subst (λ (w : List ℕ × List ℕ). (b ∷ c ∷ bytes ≡ pairs_text w.0 ++ w.1) × (list_all fits_byte w.0 ≡ true)) (same_Some (value ∷ more.0.0, more.0.1) (bs, rest) more.2)
           (text, and_from _ _ (lt-ltb value 256 shown.1) ih.1)
     ]
@@ -398,9 +405,11 @@ PartsFit cores e out regs c p = (EndingFits e × (few_steps cores e ≡ true)) �
 core_there : (cores : ℕ) (e : Ending) (out : List ℕ) (regs : List (Option ℕ)) (c : Control) (p : Four) → PartsFit cores e out regs c p → CoreFits cores (result_of e out regs c p)
 core_there cores e out regs c p h =
     let control : control_fits (result_of e out regs c p) ≡ true =
-        let d = h.1.1.1.0 in and_from _ _ d.0 (and_from _ _ d.1.0 (and_from _ _ d.1.1.0 (and_from _ _ d.1.1.1.0 (and_from _ _ d.1.1.1.1.0 d.1.1.1.1.1)))) in
-    (and_from _ _ h.0.0.0 (and_from _ _ h.0.0.1.0 (and_from _ _ h.0.0.1.1 (and_from _ _ h.1.0 (and_from _ _ (eq-eqb (length regs) 32 h.1.1.0.0) (and_from _ _ h.1.1.0.1
-    (and_from _ _ control h.1.1.1.1)))))), h.0.1)
+    let d = h.1.1.1.0 in and_from _ _ d.0 (and_from _ _ d.1.0 (and_from _ _ d.1.1.0 (and_from _ _ d.1.1.1.0 (and_from _ _ d.1.1.1.1.0 d.1.1.1.1.1)))) in (
+      and_from _ _ h.0.0.0 (and_from _ _ h.0.0.1.0 (and_from _ _ h.0.0.1.1 (and_from _ _ h.1.0 (and_from _ _ (eq-eqb (length regs) 32 h.1.1.0.0) (and_from _ _ h.1.1.0.1
+          (and_from _ _ control h.1.1.1.1)))))),
+      h.0.1,
+    )
 
 core_back : (cores : ℕ) (r : CoreResult) → CoreFits cores r → PartsFit cores (ending_of r) r.out r.regs (control_of r) r.parity
 core_back cores r h =

@@ -17,8 +17,8 @@ use Rattle.report_fields.proofs.Laws.{Reads, past_reads, then_reads, as_reads, f
 use Rattle.report_fields.proofs.Decimal.{own_passes}
 use Rattle.report_fields.proofs.Hexadecimal.{hex_reads}
 use Rattle.report_fields.proofs.Values.{any_reads, way_reads, hex_word_reads, value_reads, sized_reads}
-use Rattle.report_reader.specs.declared.operands.Operands.{Operands}
-use Rattle.report_reader.specs.OutcomeLines.{status_at, op_kinds, loaded_at, stored_at, swapped_at, operands_at, operation_at, fates, fate_at, watched_at}
+use Rattle.report_lines.specs.declared.operands.Operands.{Operands}
+use Rattle.report_lines.specs.OutcomeLines.{status_at, op_kinds, loaded_at, stored_at, swapped_at, operands_at, operation_at, fates, fate_at, watched_at}
 
 abbrev pub StatusFits : ℕ × ℕ → Type 0
 StatusFits z = (fits_word z.0 ≡ true) × (fits_word z.1 ≡ true)
@@ -77,15 +77,15 @@ lost_reads = as_reads (OperandsFit Lost) (shown Lost) (λ z. record { got = 0; p
 -- a number of as many digits as the first
 bytes_power : (len : ℕ) → is_length len ≡ true → 16 ^ (2 * len) ≡ 256 ^ len
 bytes_power len h = elim (or_cases _ _ h) [
-    | inl one ↦ rw (eqb-true len 1 one) refl
-    | inr more ↦ elim (or_cases _ _ more) [
-        | inl two ↦ rw (eqb-true len 2 two) refl
-        | inr most ↦ elim (or_cases _ _ most) [
-            | inl four ↦ rw (eqb-true len 4 four) refl
-            | inr eight ↦ rw (eqb-true len 8 eight) refl
-          ]
-      ]
+  | inl one ↦ rw (eqb-true len 1 one) refl
+  | inr more ↦ elim (or_cases _ _ more) [
+    | inl two ↦ rw (eqb-true len 2 two) refl
+    | inr most ↦ elim (or_cases _ _ most) [
+      | inl four ↦ rw (eqb-true len 4 four) refl
+      | inr eight ↦ rw (eqb-true len 8 eight) refl
+    ]
   ]
+]
 
 put_reads : (len : ℕ) → is_length len ≡ true → Reads (λ n. number_fits len n ≡ true) (hex_field 10 (2 * len)) (hex_at 10 (2 * len))
 put_reads len h = fits_reads (λ n. number_fits len n ≡ true) (hex_reads 10 (2 * len))
@@ -127,8 +127,15 @@ Fields = OpKind × (ℕ × (ℕ × (ℕ × (ℕ × Operands))))
 
 abbrev op_of : Fields → Op
 op_of z = record {
-  got = z.1.1.1.1.1.got; put = z.1.1.1.1.1.put; core = z.1.0; k = z.1.1.0; step = z.1.1.1.0; addr = z.1.1.1.1.0; kind = z.0;
-  len = z.1.1.1.1.1.len; way = z.1.1.1.1.1.way;
+  got = z.1.1.1.1.1.got;
+  put = z.1.1.1.1.1.put;
+  core = z.1.0;
+  k = z.1.1.0;
+  step = z.1.1.1.0;
+  addr = z.1.1.1.1.0;
+  kind = z.0;
+  len = z.1.1.1.1.1.len;
+  way = z.1.1.1.1.1.way;
 }
 
 abbrev fields_of : Op → Fields

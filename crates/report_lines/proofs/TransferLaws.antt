@@ -20,9 +20,8 @@ use Rattle.report_fields.proofs.Laws.{Reads, past_reads, then_reads, as_reads, k
 use Rattle.report_fields.proofs.Decimal.{own_passes}
 use Rattle.report_fields.proofs.Hexadecimal.{hex_reads, no_dash}
 use Rattle.report_fields.proofs.Values.{any_reads, way_reads, hex_word_reads}
-use Rattle.report_reader.specs.declared.syndromes.Syndromes.{Syndromes}
-use Rattle.report_reader.specs.Dashes.{shows_dashes}
-use Rattle.report_reader.specs.TransferLine.{kinds, address_at, no_way_at, way_at, line_syndromes_at, word_syndrome_at, no_words, store_syndrome_at, snoop_at, syndromes_at, transfer_at}
+use Rattle.report_lines.specs.declared.syndromes.Syndromes.{Syndromes}
+use Rattle.report_lines.specs.TransferLine.{shows_dashes, kinds, address_at, no_way_at, way_at, line_syndromes_at, word_syndrome_at, no_words, store_syndrome_at, snoop_at, syndromes_at, transfer_at}
 
 -- ---- the kind and its cause
 
@@ -201,10 +200,10 @@ word_syndrome_reads : Reads (Words 1) (λ s. syndromes_field (with s)) word_synd
 unfolding word_syndrome_at
 word_syndrome_reads = as_reads (Words 1) (λ s. syndromes_field (with s)) (λ v. record { syn = v * 2 ^ 56; words = 1; len = 0 }) (λ s. s.syn / 2 ^ 56) (hex_reads 10 2)
     (λ v small.
-      let value : v * 2 ^ 56 / 2 ^ 56 ≡ v = omega arith in
-      let below : v * 2 ^ 56 < 2 ^ 64 = omega arith in
-      let round : v * 2 ^ 56 % 2 ^ 56 ≡ 0 = omega arith in
-      (ap (hex_field 10 2) value, (refl, (and_from _ _ (lt-ltb (v * 2 ^ 56) (2 ^ 64) below) (eq-eqb (v * 2 ^ 56 % 2 ^ 56) 0 round), refl))))
+    let value : v * 2 ^ 56 / 2 ^ 56 ≡ v = omega arith in
+    let below : v * 2 ^ 56 < 2 ^ 64 = omega arith in
+    let round : v * 2 ^ 56 % 2 ^ 56 ≡ 0 = omega arith in
+    (ap (hex_field 10 2) value, (refl, (and_from _ _ (lt-ltb (v * 2 ^ 56) (2 ^ 64) below) (eq-eqb (v * 2 ^ 56 % 2 ^ 56) 0 round), refl))))
     (λ s h. word_back s.syn s.words s.len h.0 h.1.0 h.1.1)
 
 no_dashes : (a b : Bool) → a ≡ false → (a && b) ≡ true → ⊥
@@ -307,8 +306,16 @@ fields_of t = (t.master, (t.step, (t.kind, (t.why, (t.addr, (t.way, syndromes_of
 
 abbrev transfer_of : ℕ → Fields → Transfer
 transfer_of turn z = record {
-  syn = z.1.1.1.1.1.1.syn; turn = turn; master = z.0; step = z.1.0; addr = z.1.1.1.1.0; kind = z.1.1.0; why = z.1.1.1.0;
-  way = z.1.1.1.1.1.0; words = z.1.1.1.1.1.1.words; len = z.1.1.1.1.1.1.len;
+  syn = z.1.1.1.1.1.1.syn;
+  turn = turn;
+  master = z.0;
+  step = z.1.0;
+  addr = z.1.1.1.1.0;
+  kind = z.1.1.0;
+  why = z.1.1.1.0;
+  way = z.1.1.1.1.1.0;
+  words = z.1.1.1.1.1.1.words;
+  len = z.1.1.1.1.1.1.len;
 }
 
 abbrev FieldsFit : Fields → Type 0
@@ -317,9 +324,14 @@ FieldsFit z = (fits_word z.0 ≡ true) × ((fits_word z.1.0 ≡ true) × (Unit {
 
 transfer_there : (turn : ℕ) (z : Fields) → turn < 2 ^ 32 → FieldsFit z → TransferFits turn (transfer_of turn z)
 transfer_there turn z small h =
-    let s = h.1.1.1.1.1.1 in
-    (refl, (and_from _ _ (lt-ltb turn (2 ^ 32) small) (and_from _ _ h.0 (and_from _ _ h.1.0 (and_from _ _ h.1.1.1.0 (and_from _ _ h.1.1.1.1.0 (and_from _ _ h.1.1.1.1.1.0
-    (and_from _ _ s.0 s.1.0)))))), s.1.1))
+    let s = h.1.1.1.1.1.1 in (
+      refl,
+      (
+        and_from _ _ (lt-ltb turn (2 ^ 32) small) (and_from _ _ h.0 (and_from _ _ h.1.0 (and_from _ _ h.1.1.1.0 (and_from _ _ h.1.1.1.1.0 (and_from _ _ h.1.1.1.1.1.0
+            (and_from _ _ s.0 s.1.0)))))),
+        s.1.1,
+      ),
+    )
 
 transfer_back : (turn : ℕ) (t : Transfer) → TransferFits turn t → (transfer_of turn (fields_of t) ≡ t) × FieldsFit (fields_of t)
 transfer_back turn t h =
