@@ -1,3 +1,4 @@
 mod errors;
 mod images;
+mod read_back;
 mod reports;

@@ -9,6 +9,8 @@ mod transfers;
 ghost use Rattle.std.specs.Prelude.{◌≡◌, ◌++◌, IfOk, OnOk, codes};
 ghost use Rattle.lf_model.specs.Report.{report};
 
+pub use report_reader::{ReportErr, read_report};
+
 use cores::put_cores;
 use fields::put;
 use lf_model::trace::Trace;

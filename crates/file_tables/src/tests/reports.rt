@@ -25,7 +25,7 @@ end
 ";
 
 /// A line of each kind.
-const EACH_KIND: &str = "leon3ft report 1
+pub const EACH_KIND: &str = "leon3ft report 1
 cores 3
 core 0 stop 09 2 4 1 05
 out 0 -

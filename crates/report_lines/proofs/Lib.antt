@@ -1,0 +1,4 @@
+pub mod Pairs
+pub mod CoreLaws
+pub mod TransferLaws
+pub mod OutcomeLaws

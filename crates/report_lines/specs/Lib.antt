@@ -1,0 +1,3 @@
+pub mod CoreLines
+pub mod TransferLine
+pub mod OutcomeLines

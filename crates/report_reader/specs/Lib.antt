@@ -1,0 +1,4 @@
+pub mod Whole
+pub mod Dashes
+pub mod Answer
+pub mod Laws
