@@ -6,8 +6,8 @@ ghost use Rattle.ahb_bus.specs.Aimed.{IsAimed};
 ghost use Rattle.ahb_bus.specs.Cells.{values, AreCellsOf};
 
 use crate::held::{Held, hold};
-use flip_plan::Strike;
 use early_memory::{Flipped, Memory};
+use flip_plan::Strike;
 use lf_model::trace::Fate;
 
 /// Strikes a flip, and tells its fate.

@@ -11,8 +11,8 @@ ghost use Rattle.leon_core.specs.RegistersState.{values, struck_of, bad_at, show
 use crate::outcome::Outcome;
 use crate::strike::strike_due;
 use crate::tell::tell_all;
-use flip_plan::{Array, Strike, plan_of};
 use early_regfile::RegFile;
+use flip_plan::{Array, Strike, plan_of};
 use lf_model::flip::Flips;
 use lf_model::step::RegBad;
 use lf_model::trace::Fate;

@@ -3,8 +3,8 @@ ghost use Rattle.flip_plan.specs.Plan.{IsByTime};
 ghost use Rattle.leon_core.specs.Keeping.{AreKept, IsAimed, IsReady, Strikes};
 
 use crate::outcome::Outcome;
-use flip_plan::{Strike, run_end};
 use early_regfile::RegFile;
+use flip_plan::{Strike, run_end};
 
 /// Strikes a flip, and notes its outcome.
 fn strike(file: &mut RegFile, outcomes: &mut Vec<Outcome>, s: Strike)

@@ -4,8 +4,8 @@ ghost use Rattle.leon_core.specs.Keeping.{IsNumberedBelow, IsAimed};
 ghost use Rattle.leon_core.specs.Telling.{fate_of_strike, told_run};
 
 use crate::outcome::Outcome;
-use flip_plan::Strike;
 use early_regfile::RegFile;
+use flip_plan::Strike;
 use lf_model::trace::Fate;
 
 /// The fate of an applied flip at the end. It stands there if it is dormant, and a stop may name its cell.

@@ -9,12 +9,11 @@ mod transfers;
 ghost use Rattle.std.specs.Prelude.{◌≡◌, ◌++◌, IfOk, OnOk, codes};
 ghost use Rattle.lf_model.specs.Report.{report};
 
-pub use report_reader::{ReportErr, read_report};
-
 use cores::put_cores;
 use fields::put;
 use lf_model::trace::Trace;
 use outcome::{put_ahb, put_flips, put_order, put_watch};
+pub use report_reader::{ReportErr, read_report};
 use std::alloc::{AllocError, Global};
 use transfers::put_transfers;
 
