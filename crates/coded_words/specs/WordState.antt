@@ -1,5 +1,5 @@
 -- A word under the code, as its users see it.
-use Rattle.std.specs.Prelude.{ℕ, nat_lt, List, length, if◌then◌else◌}
+use Rattle.std.specs.Prelude.{ℕ, ◌≤◌, nat_lt, List, length, if◌then◌else◌}
 use Rattle.edac_code.specs.Reading.{read_of}
 use Rattle.edac_code.specs.declared.answer.Read39.{Read39}
 use Rattle.lf_model.specs.Flips.{Moment, standing, word_budget, turned_bits}
@@ -21,3 +21,7 @@ flip_answer h = answer_by (length (standing word_budget h))
 -- what the word reads as: by the bits that stand turned, it is clean, fixed or bad
 unfoldable pub answer_of : WordState → Read39
 answer_of word = read_of word.value (turned_bits word.history)
+
+-- no more bits stand turned than the budget of flips
+pub record IsInBudget (h : List Moment) : Type 0 where
+  pub few : length (turned_bits h) ≤ word_budget

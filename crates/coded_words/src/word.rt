@@ -5,7 +5,7 @@ ghost use Rattle.lf_model.specs.Flips.Moment.{Written, Named};
 ghost use Rattle.lf_model.specs.Caches.Slot.{history_at};
 ghost use Rattle.coded_words.specs.Past.{past_at, named_behind, GoesOn};
 ghost use Rattle.coded_words.specs.Ways.{how_of};
-ghost use Rattle.coded_words.specs.WordState.{answer_of, flip_answer};
+ghost use Rattle.coded_words.specs.WordState.{answer_of, flip_answer, IsInBudget};
 
 use crate::history::{Empty, History, How, Naming, Rewrite, Strike};
 use crate::past::{NamingThen, Past};
@@ -47,7 +47,8 @@ impl Word {
     /// What it reads as. No code is computed where no flip stands in it.
     #[inline]
     pub(crate) fn read(&self) -> Read39
-        ensures { result ≡ answer_of self.now }
+        ensures answer { result ≡ answer_of self.now }
+        ensures budget { IsInBudget self.now.history }
     {
         self.cell.read()
     }

@@ -6,7 +6,7 @@ ghost use Rattle.lf_model.specs.Fates.{fate_of};
 ghost use Rattle.lf_model.specs.Flips.{standing, word_budget, word_bits, syndrome};
 ghost use Rattle.lf_model.specs.Flips.Moment.{Named};
 ghost use Rattle.lf_model.specs.declared.trace.Fate.TheVariants.{Late};
-ghost use Rattle.coded_words.specs.WordState.{flip_answer};
+ghost use Rattle.coded_words.specs.WordState.{flip_answer, IsInBudget};
 ghost use Rattle.coded_words.specs.Words.{answer_at, written, IsToCome, ended, named_in};
 ghost use Rattle.coded_words.specs.Ways.{how_of};
 
@@ -75,7 +75,8 @@ impl CodedWords {
     #[inline]
     pub fn read(&self, place: usize) -> Read39
         requires { place < length self.now.histories }
-        ensures { result ≡ answer_at self.now place }
+        ensures answer { result ≡ answer_at self.now place }
+        ensures budget { IsInBudget (history_at place self.now.histories) }
     {
         self.words[place].read()
     }
