@@ -101,6 +101,13 @@ impl FlipLedger {
         })
     }
 
+    /// The number of the current turn.
+    pub fn turn(&self) -> u32
+        ensures { result ≡ self.now.turn }
+    {
+        self.turn
+    }
+
     /// A turn begins. The histories up to now are remembered as those of the turns before it.
     pub fn begin(&mut self, turn: u32)
         requires { self.old.turn ≤ turn }

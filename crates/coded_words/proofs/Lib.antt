@@ -1,0 +1,4 @@
+pub mod CellLemmas
+pub mod ArrayLemmas
+pub mod PastLemmas
+pub mod AnswerLemmas

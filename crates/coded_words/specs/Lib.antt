@@ -1,0 +1,6 @@
+pub mod Ways
+pub mod WordState
+pub mod Inside
+pub mod Past
+pub mod Words
+pub mod Kept
