@@ -18,8 +18,6 @@ pub mod place;
 pub mod record;
 pub mod setup;
 pub mod step;
-#[cfg(test)]
-mod tests;
 pub mod touch;
 pub mod trace;
 pub mod trap;

@@ -6,6 +6,7 @@ mod byte_parity;
 mod cells;
 mod decoding;
 mod encoding;
+mod image_memory;
 mod log;
 mod numbers;
 mod products;

@@ -1,12 +1,13 @@
-use crate::addresses::{is_in_ram, is_in_range, is_text_byte, is_text_word, touches_text};
-use crate::control::Ctl;
-use crate::image::{Image, Range, Segment};
-use crate::listed::Listed;
+use super::expect;
+use lf_model::addresses::{is_in_ram, is_in_range, is_text_byte, is_text_word, touches_text};
+use lf_model::control::Ctl;
+use lf_model::image::{Image, Range, Segment};
+use lf_model::listed::Listed;
 use std::alloc::{AllocError, Global};
 use std::test::Fail;
 
 /// Addresses, and the byte at the start at each.
-const BYTES: [(u64, u8); 11] = [
+static BYTES: [(u32, u8); 10] = [
     (0x4000_0003, 0),
     (0x4000_0004, 0x11),
     (0x4000_000a, 0x77),
@@ -17,11 +18,10 @@ const BYTES: [(u64, u8); 11] = [
     (0x4000_0011, 0x99),
     (0x4000_0012, 0),
     (0x4000_0016, 0),
-    (0x1_4000_0004, 0),
 ];
 
 /// Addresses, and the word at the start at each.
-const WORDS: [(u32, u32); 7] = [
+static WORDS: [(u32, u32); 7] = [
     (0x4000_0000, 0),
     (0x4000_0004, 0x1122_3344),
     (0x4000_0008, 0x5566_7700),
@@ -32,7 +32,7 @@ const WORDS: [(u32, u32); 7] = [
 ];
 
 /// Addresses, and whether the byte at each is text.
-const TEXT_BYTES: [(u64, bool); 4] = [
+static TEXT_BYTES: [(u32, bool); 4] = [
     (0x4000_0003, false),
     (0x4000_0004, true),
     (0x4000_000d, true),
@@ -40,7 +40,7 @@ const TEXT_BYTES: [(u64, bool); 4] = [
 ];
 
 /// Addresses, and whether the word at each is text.
-const TEXT_WORDS: [(u32, bool); 5] = [
+static TEXT_WORDS: [(u32, bool); 5] = [
     (0x4000_0000, false),
     (0x4000_0004, true),
     (0x4000_0008, true),
@@ -49,7 +49,7 @@ const TEXT_WORDS: [(u32, bool); 5] = [
 ];
 
 /// Addresses and numbers of bytes, and whether one of these bytes is text.
-const TOUCHES: [(u32, u8, bool); 7] = [
+static TOUCHES: [(u32, u8, bool); 7] = [
     (0x4000_0000, 4, false),
     (0x4000_0000, 8, true),
     (0x4000_0003, 1, false),
@@ -60,7 +60,7 @@ const TOUCHES: [(u32, u8, bool); 7] = [
 ];
 
 /// Addresses and numbers of bytes, and whether all these bytes are in RAM of 65,536 bytes.
-const IN_RAM: [(u32, u8, bool); 8] = [
+static IN_RAM: [(u32, u8, bool); 8] = [
     (0x3fff_ffff, 1, false),
     (0x3fff_fffc, 8, false),
     (0x4000_0000, 4, true),
@@ -84,6 +84,12 @@ const RESET: Ctl = Ctl {
     npc: 0x4000_0008,
 };
 
+/// The text of that image.
+const TEXT: Range = Range {
+    first: 0x4000_0004,
+    length: 10,
+};
+
 /// Text of 10 bytes, of which the file gives 7, and data of 6 bytes, of which the file gives 2.
 fn two_segments(alloc: Global) -> Result<Image, AllocError> {
     let text = Segment {
@@ -100,15 +106,11 @@ fn two_segments(alloc: Global) -> Result<Image, AllocError> {
         write: true,
         exec: false,
     };
-    let range = Range {
-        first: 0x4000_0004,
-        length: 10,
-    };
     let mut segments = Listed::new(alloc);
     segments.push(text)?;
     segments.push(data)?;
     let mut ranges = Listed::new(alloc);
-    ranges.push(range)?;
+    ranges.push(TEXT)?;
     Ok(Image {
         entry: 0x4000_0004,
         segments,
@@ -117,38 +119,50 @@ fn two_segments(alloc: Global) -> Result<Image, AllocError> {
 }
 
 #[test]
-fn memory_states_and_lists(rt: HostRuntime) -> Result<(), Fail> {
+fn memory_at_the_start(rt: HostRuntime) -> Result<(), Fail> {
     let image = two_segments(rt.alloc())?;
-    for (addr, byte) in BYTES {
-        assert_eq!(rt; image.initial_byte(addr), byte, "byte at {addr}");
+    for &(addr, byte) in &BYTES {
+        expect(&rt, addr, image.initial_byte(u64::from(addr)) == byte);
     }
-    for (addr, word) in WORDS {
-        assert_eq!(rt; image.word_at(addr), word, "word at {addr}");
+    assert!(rt; image.initial_byte(0x1_4000_0004) == 0);
+    for &(addr, word) in &WORDS {
+        expect(&rt, addr, image.word_at(addr) == word);
     }
     for segment in image.segments.as_slice() {
-        assert_eq!(rt; segment.covers(0x4000_000d), segment.exec);
-        assert_eq!(rt; segment.covers(0x4000_0010), segment.write);
+        assert!(rt; segment.covers(0x4000_000d) == segment.exec);
+        assert!(rt; segment.covers(0x4000_0010) == segment.write);
         assert!(rt; !segment.covers(0x4000_000e));
     }
+    Ok(())
+}
 
+#[test]
+fn text_of_an_image(rt: HostRuntime) -> Result<(), Fail> {
+    let image = two_segments(rt.alloc())?;
     let text = image.text.as_slice();
-    for (addr, is_text) in TEXT_BYTES {
-        assert_eq!(rt; is_text_byte(text, addr), is_text, "text byte {addr}");
-        for range in text {
-            assert_eq!(rt; is_in_range(range, addr), is_text, "range and {addr}");
-        }
+    for &(addr, is_text) in &TEXT_BYTES {
+        expect(&rt, addr, is_text_byte(text, u64::from(addr)) == is_text);
+        expect(&rt, addr, is_in_range(&TEXT, u64::from(addr)) == is_text);
     }
-    for (addr, is_text) in TEXT_WORDS {
-        assert_eq!(rt; is_text_word(text, addr), is_text, "text word {addr}");
+    for &(addr, is_text) in &TEXT_WORDS {
+        expect(&rt, addr, is_text_word(text, addr) == is_text);
     }
-    for (addr, len, touches) in TOUCHES {
-        assert_eq!(rt; touches_text(text, addr, len), touches, "{len} at {addr}");
+    for &(addr, len, touches) in &TOUCHES {
+        expect(&rt, addr, touches_text(text, addr, len) == touches);
     }
-    for (addr, len, is_in) in IN_RAM {
-        assert_eq!(rt; is_in_ram(0x1_0000, addr, len), is_in, "{len} at {addr}");
-    }
+    Ok(())
+}
 
-    assert_eq!(rt; RESET.psr(), 0xf300_0080);
+#[test]
+fn bytes_of_ram(rt: HostRuntime) {
+    for &(addr, len, is_in) in &IN_RAM {
+        expect(&rt, addr, is_in_ram(0x1_0000, addr, len) == is_in);
+    }
+}
+
+#[test]
+fn psr_of_a_control_state(rt: HostRuntime) {
+    assert!(rt; RESET.psr() == 0xf300_0080);
     let in_user_mode = Ctl {
         icc: 0xb,
         pil: 0xd,
@@ -158,14 +172,17 @@ fn memory_states_and_lists(rt: HostRuntime) -> Result<(), Fail> {
         cwp: 5,
         ..RESET
     };
-    assert_eq!(rt; in_user_mode.psr(), 0xf3b0_0d65);
+    assert!(rt; in_user_mode.psr() == 0xf3b0_0d65);
+}
 
+#[test]
+fn a_list_keeps_its_items(rt: HostRuntime) -> Result<(), Fail> {
     let mut words = Listed::new(rt.alloc());
-    assert_eq!(rt; words.len(), 0);
+    assert!(rt; words.len() == 0);
     words.push(7u32)?;
     words.push(5)?;
-    assert_eq!(rt; words.len(), 2);
+    assert!(rt; words.len() == 2);
     let words = Listed::from_vec(words.into_vec());
-    assert_eq!(rt; words.as_slice(), [7, 5].as_slice());
+    assert!(rt; words.as_slice() == [7, 5].as_slice());
     Ok(())
 }
