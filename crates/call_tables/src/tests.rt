@@ -1,6 +1,7 @@
-use crate::call::plain_call;
+use leon_main::plain_call;
 use lf_io::{MemFiles, MemSink};
 use std::alloc::{AllocError, Global};
+use std::process::Abort;
 
 mod calls;
 mod runs;
@@ -25,6 +26,12 @@ const OUTPUT: [u32; 5] = [
     0x91d0_2000,
     0x0100_0000,
 ];
+
+/// The row of a table, by its number, or the call of a file or of the sink that fails, is answered as it has to be. (A message of
+/// its own in each loop would cost the prover three times as much.)
+fn expect(rt: &impl Abort, row: usize, holds: bool) {
+    assert!(rt; holds, "row or call {row}");
+}
 
 /// The file of a program.
 fn image(alloc: Global, words: &[u32]) -> Result<Vec<u8>, AllocError> {

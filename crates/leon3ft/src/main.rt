@@ -1,16 +1,7 @@
-//! The simulator's program: it runs an image on one core and writes its report, or tells the check bits of a word.
+//! The simulator's program: it hands the words of its call, the real files and the real output to `leon_main`.
 #![tactic(auto)]
 
-mod answer;
-mod call;
-mod fault;
-mod reading;
-mod run_file;
-#[cfg(test)]
-mod tests;
-mod words;
-
-use crate::words::WordsErr;
+use leon_main::{WordsErr, exit_code_of};
 use lf_io::{RealFiles, RealSink};
 use std::env;
 use std::process::ExitCode;
@@ -26,5 +17,5 @@ fn main(rt: HostRuntime) -> ExitCode {
     let alloc = rt.alloc();
     let mut files = RealFiles::new(alloc, &rt);
     let mut out = RealSink::new(&rt);
-    call::exit_code_of(alloc, words_of(&rt), &mut files, &mut out)
+    exit_code_of(alloc, words_of(&rt), &mut files, &mut out)
 }

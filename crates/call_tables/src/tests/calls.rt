@@ -1,5 +1,5 @@
-use super::{HEADERS, OUTPUT, called, image, words_of};
-use crate::call::plain_call;
+use super::{HEADERS, OUTPUT, called, expect, image, words_of};
+use leon_main::plain_call;
 use lf_io::{CleanFiles, CleanSink, MemFiles, MemSink};
 use std::alloc::{AllocError, Global};
 use std::test::Fail;
@@ -60,10 +60,9 @@ fn all_files(alloc: Global) -> Result<MemFiles, AllocError> {
 #[test]
 fn calls_are_answered(rt: HostRuntime) -> Result<(), Fail> {
     let mut files = all_files(rt.alloc())?;
-    for (call, want, text) in &CALLS {
+    for (row, (call, want, text)) in CALLS.iter().enumerate() {
         let (status, out) = called(rt.alloc(), call, &mut files, &[])?;
-        let same = status == *want && out.taken() == text.as_bytes();
-        assert!(rt; same, "{call}");
+        expect(&rt, row, status == *want && out.taken() == text.as_bytes());
     }
     Ok(())
 }
@@ -73,28 +72,28 @@ fn no_words_are_not_taken(rt: HostRuntime) -> Result<(), Fail> {
     let alloc = rt.alloc();
     let mut out = MemSink::new(alloc, 64, &[])?;
     let status = plain_call(alloc, &[], &mut CleanFiles::new(alloc), &mut out);
-    assert_eq!(rt; status, 2);
-    let same = out.taken() == b"error 2 usage\n".as_slice();
-    assert!(rt; same);
+    assert!(rt; status == 2 && out.taken() == b"error 2 usage\n".as_slice());
     Ok(())
 }
 
-/// Files and a sink that never fail: a missing file reads as an empty one.
+/// Calls over files and a sink that never fail, each with its status.
+static CLEAN_CALLS: [(&str, u8); 4] = [
+    ("leon3ft codes 00000001", 0),
+    ("leon3ft codes 1", 2),
+    ("leon3ft play absent absent absent absent", 4),
+    ("leon3ft play image absent absent absent", 0),
+];
+
+/// Among files that never fail, a missing one reads as an empty one.
 #[test]
 fn clean_files_and_a_clean_sink(rt: HostRuntime) -> Result<(), Fail> {
     let alloc = rt.alloc();
     let mut files = CleanFiles::new(alloc);
     files.put("image", &image(alloc, &OUTPUT)?)?;
-    let calls = [
-        ("leon3ft codes 00000001", 0),
-        ("leon3ft codes 1", 2),
-        ("leon3ft play absent absent absent absent", 4),
-        ("leon3ft play image absent absent absent", 0),
-    ];
-    for (call, want) in calls {
+    for (row, (call, want)) in CLEAN_CALLS.iter().enumerate() {
         let words = words_of(alloc, call)?;
         let status = plain_call(alloc, &words, &mut files, &mut CleanSink::new());
-        assert_eq!(rt; status, want, "{call}");
+        expect(&rt, row, status == *want);
     }
     Ok(())
 }

@@ -1,4 +1,4 @@
-use super::{OUTPUT, PLAY, called, image};
+use super::{OUTPUT, PLAY, called, expect, image};
 use lf_io::{MemFiles, MemSink};
 use std::alloc::{AllocError, Global};
 use std::test::Fail;
@@ -188,41 +188,43 @@ fn played(
 
 #[test]
 fn rows_run_to_their_reports(rt: HostRuntime) -> Result<(), Fail> {
-    for (i, row) in ROWS.iter().enumerate() {
+    for (number, row) in ROWS.iter().enumerate() {
         let (status, out) = played(rt.alloc(), row, &[], &[])?;
         let text = report(rt.alloc(), row)?;
-        assert_eq!(rt; status, row.status, "row {i}");
-        assert!(rt; out.taken() == text.as_bytes(), "row {i}");
+        let is_right = status == row.status && out.taken() == text.as_bytes();
+        expect(&rt, number, is_right);
     }
     Ok(())
 }
 
-/// The lines that tell of a file which could not be read, in the order in which files are read.
-const UNREAD: [&str; 4] = [
+/// The lines of files that could not be read, in the order in which files are read.
+static UNREAD: [&str; 4] = [
     "error 3 configuration\n",
     "error 3 image\n",
     "error 3 script\n",
     "error 3 schedule\n",
 ];
 
+/// The place of a text among these lines, or their number.
+fn place_of(text: &[u8]) -> usize {
+    UNREAD
+        .iter()
+        .position(|line| line.as_bytes() == text)
+        .unwrap_or(UNREAD.len())
+}
+
 #[test]
 fn each_read_fails_in_turn(rt: HostRuntime) -> Result<(), Fail> {
     let mut last = 0;
-    for call in 1..100 {
-        let (status, out) = played(rt.alloc(), &WRITES, &[call], &[])?;
+    for call in 1..100usize {
+        let (status, out) = played(rt.alloc(), &WRITES, &[call as u64], &[])?;
         if status == 0 {
-            assert_eq!(rt; last, UNREAD.len() - 1, "the last file that was not read");
+            expect(&rt, call, last == UNREAD.len() - 1);
             return Ok(());
         }
-        assert_eq!(rt; status, 3, "read {call}");
-        let place = UNREAD
-            .iter()
-            .position(|line| line.as_bytes() == out.taken())
-            .unwrap_or(UNREAD.len());
-        assert!(rt;
-            place < UNREAD.len() && last <= place && place <= last + 1,
-            "read {call}"
-        );
+        let place = place_of(out.taken());
+        let is_next = last <= place && place <= last + 1;
+        expect(&rt, call, status == 3 && place < UNREAD.len() && is_next);
         last = place;
     }
     panic!(rt; "every run met a failure")
@@ -231,15 +233,14 @@ fn each_read_fails_in_turn(rt: HostRuntime) -> Result<(), Fail> {
 #[test]
 fn each_write_fails_in_turn(rt: HostRuntime) -> Result<(), Fail> {
     let text = report(rt.alloc(), &WRITES)?;
-    for call in 1..100 {
-        let (status, out) = played(rt.alloc(), &WRITES, &[], &[call])?;
+    for call in 1..100usize {
+        let (status, out) = played(rt.alloc(), &WRITES, &[], &[call as u64])?;
         if status == 0 {
-            assert!(rt; call > 1);
+            expect(&rt, call, call > 1);
             return Ok(());
         }
-        assert_eq!(rt; status, 8, "write {call}");
         let is_prefix = text.as_bytes().starts_with(out.taken());
-        assert!(rt; is_prefix, "write {call}");
+        expect(&rt, call, status == 8 && is_prefix);
     }
     panic!(rt; "every run met a failure")
 }
