@@ -8,7 +8,7 @@ use Rattle.lf_model.specs.WordHistory.{Naming, with_name, history}
 use Rattle.lf_model.specs.RegisterUse.{cell_at_end}
 use Rattle.lf_model.specs.StopCause.{transfers_of, access_after, lowest_bad, word_of}
 use Rattle.lf_model.specs.declared.flip.Flip.{Flip}
-use Rattle.lf_model.specs.declared.flip.Flip.TheVariants.{Mem, Reg}
+use Rattle.lf_model.specs.declared.flip.Flip.TheVariants.{Mem, Reg, Tag, Line}
 use Rattle.lf_model.specs.declared.setup.Setup.{Setup}
 use Rattle.lf_model.specs.declared.trace.CoreEnd.{CoreEnd}
 use Rattle.lf_model.specs.declared.trace.CoreEnd.TheVariants.{Halt, Stop, Limit}
@@ -53,7 +53,8 @@ unfoldable pub fate_of_flip : Setup → Trace → ℕ → Flip → Option Fate
 fate_of_flip setup trace i (Mem turn addr bit) = Some (fate_of word_budget i (history setup.flips (namings setup trace) addr (transfers_of trace)))
 fate_of_flip setup trace i (Reg core step cell bit) =
     Some (option_map_or (λ r. fate_of word_budget i (cell_named_at_end setup trace core r cell)) (slice_get trace.cores core) Late)
-fate_of_flip setup trace i _ = None
+fate_of_flip setup trace i (Tag core step fetch way set byte bit) = None
+fate_of_flip setup trace i (Line core step fetch way set byte bit) = None
 
 abbrev pub is_late : Fate → Bool
 is_late Late = true
@@ -87,7 +88,9 @@ TellsMemoryFlip script transfers i turn addr fate =
 
 abbrev pub TellsFlip : List Flip → List Transfer → ℕ → Flip → Fate → Type 0
 TellsFlip script transfers i (Mem turn addr bit) fate = TellsMemoryFlip script transfers i turn addr fate
-TellsFlip script transfers i _ fate = is_late fate ≡ true
+TellsFlip script transfers i (Reg core step cell bit) fate = is_late fate ≡ true
+TellsFlip script transfers i (Tag core step fetch way set byte bit) fate = is_late fate ≡ true
+TellsFlip script transfers i (Line core step fetch way set byte bit) fate = is_late fate ≡ true
 
 pub record TellsFates (script : List Flip) (transfers : List Transfer) (fates : List Fate) : Type 0 where
   pub count : length fates ≡ length script
@@ -104,7 +107,8 @@ TellsRegisterFlip setup trace i c step cell fate (Some r) =
 abbrev pub TellsFlipIn : Setup → Trace → ℕ → Flip → Fate → Type 0
 TellsFlipIn setup trace i (Mem turn addr bit) fate = TellsMemoryFlip setup.flips (transfers_of trace) i turn addr fate
 TellsFlipIn setup trace i (Reg core step cell bit) fate = TellsRegisterFlip setup trace i core step cell fate (slice_get trace.cores core)
-TellsFlipIn setup trace i _ fate = is_late fate ≡ true
+TellsFlipIn setup trace i (Tag core step fetch way set byte bit) fate = is_late fate ≡ true
+TellsFlipIn setup trace i (Line core step fetch way set byte bit) fate = is_late fate ≡ true
 
 -- the fates of a trace tell its late and declined flips
 pub record HasFates (setup : Setup) (trace : Trace) : Type 0 where
