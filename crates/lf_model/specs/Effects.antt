@@ -43,6 +43,6 @@ completed site s FpQueue = advances s
 completed site s CpOff = advances s
 completed site s CpQueue = advances s
 
--- the effect of an instruction: it reads its registers, and then its first ordinary trap comes in place of all else
+-- the effect of an instruction: it reads its registers, and is completed unless it traps
 unfoldable pub effect : Site → State → Instr → Effect
-effect site s i = with_reads (registers_read i) (unless_trap (ordinary_trap site s i) s (completed site s i))
+effect site s i = unless_trap (ordinary_trap site s i) s (with_reads (registers_read i) (completed site s i))

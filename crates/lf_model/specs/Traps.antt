@@ -3,7 +3,7 @@
 use Rattle.std.specs.Prelude.{ℕ, ◌+◌, ◌*◌, ◌/◌, ◌%◌, ◌^◌, ◌∷◌, [], Bool, true, false, List, Option, Some, None, if◌then◌else◌, slice_set}
 use Rattle.std.specs.Option.{option_or}
 use Rattle.lf_model.specs.State.{State, cell}
-use Rattle.lf_model.specs.Effect.{Effect}
+use Rattle.lf_model.specs.Effect.{Effect, with_reads}
 use Rattle.lf_model.specs.declared.trap.Checks.{Checks}
 
 -- ---- the trap types by their names
@@ -113,10 +113,10 @@ trap_effect tt_ s = record {
   next = λ _. if s.ctl.et then entered tt_ s else record s { halt = Some tt_ };
 }
 
--- the trap, if there is one, in place of the effect
+-- the trap, if there is one, in place of the effect, whose registers are read before
 abbrev pub unless_trap : Option ℕ → State → Effect → Effect
 unless_trap None s e = e
-unless_trap (Some tt_) s e = trap_effect tt_ s
+unless_trap (Some tt_) s e = with_reads e.reads (trap_effect tt_ s)
 
 -- the trap of a PC that is no text word; no word is fetched there, so that no other trap comes
 abbrev pub fetch_trap : State → Effect

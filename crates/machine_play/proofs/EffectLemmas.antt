@@ -171,14 +171,14 @@ completed_plain site s FpQueue none = quiet site.ram _ refl refl
 completed_plain site s CpOff none = quiet site.ram _ refl refl
 completed_plain site s CpQueue none = quiet site.ram _ refl refl
 
-unless_known : (ram : ℕ) (registers : List ℕ) (trap : Option ℕ) (s : State) (e : Effect) → (trap ≡ None → IsPlain ram e) → IsKnown ram s (with_reads registers (unless_trap trap s e))
-unless_known ram registers None s e h = let plain = h refl in inr (record { trap = plain.trap; access = plain.access })
-unless_known ram registers (Some tt_) s e h = inl (record { tt_ = tt_; registers = registers; is = refl })
+unless_known : (ram : ℕ) (trap : Option ℕ) (s : State) (e : Effect) → (trap ≡ None → IsPlain ram e) → IsKnown ram s (unless_trap trap s e)
+unless_known ram None s e h = inr (h refl)
+unless_known ram (Some tt_) s e h = inl (record { tt_ = tt_; registers = e.reads; is = refl })
 
 effect_known : (site : Site) (s : State) (i : Instr) → IsKnown site.ram s (effect site s i)
 unfolding effect
-effect_known site s i = unless_known site.ram (registers_read i) (ordinary_trap site s i) s (completed site s i)
-    (λ none. completed_plain site s i (allowed (checks_of site s i) none))
+effect_known site s i = unless_known site.ram (ordinary_trap site s i) s (with_reads (registers_read i) (completed site s i))
+    (λ none. let plain = completed_plain site s i (allowed (checks_of site s i) none) in record { trap = plain.trap; access = plain.access })
 
 -- what the instruction at PC asks
 pub known : (setup : Setup) (c : ℕ) (s : State) → IsKnown setup.config.ram s (effect_at_pc setup c s)

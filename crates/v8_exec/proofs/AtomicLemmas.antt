@@ -3,7 +3,8 @@ use Rattle.std.proofs.Common.{◌≡◌, ℕ, ◌∷◌, [], List, Bool, cond, t
 use Rattle.lf_model.specs.CellAccess.{after_cells}
 use Rattle.lf_model.specs.Start.{output_word}
 use Rattle.lf_model.specs.State.{State, advanced, with_register}
-use Rattle.lf_model.specs.Effect.{Site, AccessKind, Access, Effect, cell_written, sum_of_operands}
+use Rattle.lf_model.specs.Effect.{Site, AccessKind, Access, Effect, with_reads, cell_written, sum_of_operands}
+use Rattle.lf_model.specs.Instructions.{registers_read}
 use Rattle.lf_model.specs.Traps.{unless_trap}
 use Rattle.lf_model.specs.Memory.{output_effect, store_effect, mem_effect}
 use Rattle.lf_model.specs.Alternate.{is_plain_space, control_effect}
@@ -161,8 +162,8 @@ ends_completed site s CpQueue = ends_without s _ refl
 ends_effect : (site : Site) (s : State) (i : Instr) → EndsAtomic s (effect site s i)
 unfolding effect
 ends_effect site s i =
-    let here = ends_trap s (ordinary_trap site s i) (completed site s i) (ends_completed site s i) in
-    record { ends = here.ends; writes = here.writes }
+    let here = ends_completed site s i in
+    ends_trap s (ordinary_trap site s i) (with_reads (registers_read i) (completed site s i)) (record { ends = here.ends; writes = here.writes })
 
 -- ---- an instruction that needs the turn of an atomic
 

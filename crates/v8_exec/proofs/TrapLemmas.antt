@@ -21,10 +21,16 @@ stop_by : (core : ℕ) (parts : Parts) (e : Effect) (bad : RegBad) (r : Run) (wa
 stop_by core parts e bad r true h found = record { answer = rw found refl; leaves = rw h refl }
 stop_by core parts e bad r false h found = record { answer = rw found refl; leaves = rw h refl }
 
--- an instruction whose register reads bad, whatever else it does
-pub stops : (core : ℕ) (parts : Parts) (registers : List ℕ) (e : Effect) (r : Run) (bad : RegBad) → first_bad parts r.state.ctl.cwp registers ≡ Some bad
-    → Does core parts (with_reads registers e) (drains_first parts End (Stop 0x20 bad.cell bad.syn)) r r
-stops core parts registers e r bad found = stop_by core parts (with_reads registers e) bad r parts.waiting refl found
+pub unless_trap-reads : (trap : Option ℕ) (s : State) (e : Effect) → (unless_trap trap s e).reads ≡ e.reads
+unless_trap-reads None s e = refl
+unless_trap-reads (Some tt_) s e = refl
+
+-- an instruction whose register reads bad, whatever its trap
+pub stops : (core : ℕ) (parts : Parts) (trap : Option ℕ) (e : Effect) (r : Run) (bad : RegBad) → first_bad parts r.state.ctl.cwp e.reads ≡ Some bad
+    → Does core parts (unless_trap trap r.state e) (drains_first parts End (Stop 0x20 bad.cell bad.syn)) r r
+stops core parts trap e r bad found =
+    stop_by core parts (unless_trap trap r.state e) bad r parts.waiting refl
+    (ap (λ (l : List ℕ). first_bad parts r.state.ctl.cwp l) (unless_trap-reads trap r.state e) ∙ found)
 
 -- ---- trap entry
 
@@ -49,9 +55,9 @@ not_false false h = absurd (h refl)
 -- ---- an ordinary trap
 
 -- the trap that an instruction takes is in place of its effect
-pub trap_does : (core : ℕ) (parts : Parts) (trap : Option ℕ) (tt_ : ℕ) (s : State) (e : Effect) (registers : List ℕ) (did : Did) (old new : Run)
-    → trap ≡ Some tt_ → Does core parts (with_reads registers (trap_effect tt_ s)) did old new → Does core parts (with_reads registers (unless_trap trap s e)) did old new
-trap_does core parts trap tt_ s e registers did old new is does = rw is does
+pub trap_does : (core : ℕ) (parts : Parts) (trap : Option ℕ) (tt_ : ℕ) (s : State) (e : Effect) (did : Did) (old new : Run)
+    → trap ≡ Some tt_ → Does core parts (with_reads e.reads (trap_effect tt_ s)) did old new → Does core parts (unless_trap trap s e) did old new
+trap_does core parts trap tt_ s e did old new is does = rw is does
 
 pub sum_read : (s : State) (rs1 : ℕ) (src : Src) (x y : ℕ) → x ≡ register s rs1 → y ≡ operand s src → (x + y) % 2 ^ 32 ≡ sum_of_operands s rs1 src
 sum_read s rs1 src x y first second = rw first (rw second (omega arith))

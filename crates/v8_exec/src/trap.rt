@@ -4,7 +4,7 @@ ghost use Rattle.lf_model.specs.Traps.{trap_effect, traps_in_order, unless_trap}
 ghost use Rattle.lf_model.specs.Traps.{first_trap as first_of};
 ghost use Rattle.lf_model.specs.Step.{IsSound, state_of, run_seen, drains_first, Does};
 ghost use Rattle.lf_model.specs.declared.bus.Why.TheVariants.{End};
-ghost use Rattle.lf_model.specs.Effect.{Site, with_reads, advances};
+ghost use Rattle.lf_model.specs.Effect.{Site, advances};
 ghost use Rattle.v8_exec.specs.Accesses.{Asks};
 ghost use Rattle.v8_exec.specs.Frame.{Keeps, Makes};
 
@@ -78,7 +78,7 @@ pub fn refuse<P: Ports>(a: &mut Arch, checks: Checks, p: &mut P) -> Did
     requires sound { IsSound a.old }
     requires trap { IsSome (first_of (traps_in_order checks)) }
     ensures does { (tt_ : ℕ) → first_of (traps_in_order checks) ≡ Some tt_ → Does (P.seen p.old).site.core (P.parts p.old) (trap_effect tt_ (state_of a.old (P.seen p.old))) result (run_seen a.old (P.seen p.old)) (run_seen a.new (P.seen p.new)) }
-    ensures cells { P.struck p.new ≡ cells_after P.read_cell P.write_cell (P.parts p.old) a.old.ctl.cwp (with_reads [] (unless_trap (first_of (traps_in_order checks)) (state_of a.old (P.seen p.old)) (advances (state_of a.old (P.seen p.old))))) result (P.struck p.old) }
+    ensures cells { P.struck p.new ≡ cells_after P.read_cell P.write_cell (P.parts p.old) a.old.ctl.cwp (unless_trap (first_of (traps_in_order checks)) (state_of a.old (P.seen p.old)) (advances (state_of a.old (P.seen p.old)))) result (P.struck p.old) }
     ensures keeps { Keeps a.old a.new (P.seen p.old) (P.seen p.new) (P.room p.old) (P.room p.new) }
 {
     match first_trap(&checks) {

@@ -1,6 +1,7 @@
 use Rattle.std.proofs.Common.{◌≡◌, ◌∙◌, Some, None, not, refl, ap, sym}
 use Rattle.std.specs.Option.{option_or}
-use Rattle.lf_model.specs.Traps.{when, unless_trap, privileged_instruction, mem_address_not_aligned, data_access_exception}
+use Rattle.lf_model.specs.Traps.{when, privileged_instruction, mem_address_not_aligned, data_access_exception}
+use Rattle.lf_model.specs.Effect.{with_reads}
 use Rattle.lf_model.specs.Effects.{completed, effect}
 use Rattle.lf_model.specs.OrdinaryTraps.{ordinary_trap}
 use Rattle.lf_model.specs.Instructions.{registers_read}
@@ -20,8 +21,8 @@ returns-in-Err-clause-does g c =
     let parts = g.P.Ports.parts c.args.p.now in
     let s = state_of c.args.a.now seen in
     let i = Alternate c.args.name c.args.rd c.args.rs1 c.args.rs2 c.args.asi in
-    let e = unless_trap (ordinary_trap seen.site s i) s (completed seen.site s i) in
-    let stopped = stops seen.site.core parts (registers_read i) e (run_seen c.args.a.now seen) c.in-Err.bad c.in-Err.ensures.read in
+    let e = with_reads (registers_read i) (completed seen.site s i) in
+    let stopped = stops seen.site.core parts (ordinary_trap seen.site s i) e (run_seen c.args.a.now seen) c.in-Err.bad c.in-Err.ensures.read in
     rw c.stop.ensures.stop (rw c.read_request.ensures.parts (rw c.read_request.ensures.seen stopped))
 
 -- the trap that is taken
@@ -44,7 +45,7 @@ returns-in-Some-clause-does g c =
     let s = state_of c.args.a.now seen in
     let i = Alternate c.args.name c.args.rd c.args.rs1 c.args.rs2 c.args.asi in
     let good = ap (λ (t : Parts). first_bad t c.args.a.now.ctl.cwp (registers_read i)) c.read_request.ensures.parts ∙ c.in-Ok.ensures.read.2 in
-    trap_does seen.site.core parts (ordinary_trap seen.site s i) c.in-Some.tt s (completed seen.site s i) (registers_read i) c.take.result (run_seen c.args.a.now seen) (run_seen c.take.new.a (g.P.Ports.seen c.take.new.p))
+    trap_does seen.site.core parts (ordinary_trap seen.site s i) c.in-Some.tt s (with_reads (registers_read i) (completed seen.site s i)) c.take.result (run_seen c.args.a.now seen) (run_seen c.take.new.a (g.P.Ports.seen c.take.new.p))
     (taken g c)
     (rw (sym c.read_request.ensures.seen) (rw (sym c.read_request.ensures.parts) (c.take.ensures.does (registers_read i) good)))
 
@@ -57,7 +58,8 @@ returns-in-Err-clause-cells g c =
     let seen = g.P.Ports.seen c.args.p.now in
     let s = state_of c.args.a.now seen in
     let i = Alternate c.args.name c.args.rd c.args.rs1 c.args.rs2 c.args.asi in
-    touched_bad g.P.Ports.read_cell g.P.Ports.write_cell (g.P.Ports.parts c.args.p.now) c.args.a.now.ctl.cwp (effect seen.site s i) c.stop.result
+    touched_bad g.P.Ports.read_cell g.P.Ports.write_cell (g.P.Ports.parts c.args.p.now) c.args.a.now.ctl.cwp
+    (ordinary_trap seen.site s i) s (with_reads (registers_read i) (completed seen.site s i)) c.stop.result
     (g.P.Ports.struck c.args.p.now) (g.P.Ports.struck c.read_request.new.p) c.read_request.ensures.cells c.stop.ensures.unwritten
 
 pub returns-in-Some-clause-cells : goal.returns-in-Some-clause-cells
@@ -67,6 +69,6 @@ returns-in-Some-clause-cells g c =
     let s = state_of c.args.a.now seen in
     let i = Alternate c.args.name c.args.rd c.args.rs1 c.args.rs2 c.args.asi in
     touched_trap g.P.Ports.read_cell g.P.Ports.write_cell (g.P.Ports.parts c.args.p.now) c.args.a.now.ctl.cwp (ordinary_trap seen.site s i) c.in-Some.tt s
-    (completed seen.site s i) (registers_read i) c.take.result
+    (with_reads (registers_read i) (completed seen.site s i)) c.take.result
     (g.P.Ports.struck c.args.p.now) (g.P.Ports.struck c.read_request.new.p) (g.P.Ports.struck c.take.new.p)
     (taken g c) c.read_request.ensures.cells c.take.ensures.cells
