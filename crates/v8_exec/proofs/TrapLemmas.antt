@@ -1,5 +1,5 @@
 -- What an instruction comes to where a register reads bad, where it traps, and where it does not.
-use Rattle.std.proofs.Common.{◌≡◌, ℕ, ◌+◌, ◌%◌, ◌^◌, arith, List, Bool, cond, true, false, Option, Some, None, refl, sym, ap, ◌∙◌, ◌==◌, slice_set}
+use Rattle.std.proofs.Common.{◌≡◌, ℕ, ◌+◌, ◌%◌, ◌^◌, arith, List, Bool, true, false, Option, Some, None, refl, sym, ap, ◌∙◌, slice_set}
 use Rattle.lf_model.specs.State.{State, cell, register, operand}
 use Rattle.lf_model.specs.Effect.{Effect, with_reads, sum_of_operands}
 use Rattle.lf_model.specs.Traps.{unless_trap, trap_effect, entered, handler_window}

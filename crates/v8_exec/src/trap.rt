@@ -1,4 +1,4 @@
-ghost use Rattle.std.specs.Prelude.{◌≡◌, ◌<◌, List, [], ℕ, Some, IsSome};
+ghost use Rattle.std.specs.Prelude.{◌≡◌, ◌<◌, List, ℕ, Some, IsSome};
 ghost use Rattle.lf_model.specs.CellAccess.{cells_after, written_by};
 ghost use Rattle.lf_model.specs.Traps.{trap_effect, traps_in_order, unless_trap};
 ghost use Rattle.lf_model.specs.Traps.{first_trap as first_of};

@@ -1,4 +1,4 @@
-ghost use Rattle.std.specs.Prelude.{◌≡◌, ◌<◌, [], IfOk, IfErr, OnOk, None, Some};
+ghost use Rattle.std.specs.Prelude.{◌≡◌, ◌<◌, IfOk, IfErr, OnOk, None, Some};
 ghost use Rattle.lf_model.specs.CellAccess.{written_by};
 ghost use Rattle.lf_model.specs.Effect.{sets};
 ghost use Rattle.lf_model.specs.Traps.{traps_in_order};

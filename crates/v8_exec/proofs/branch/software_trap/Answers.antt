@@ -1,4 +1,4 @@
-use Rattle.std.proofs.Common.{ℕ, ◌∙◌, ◌%◌, ◌+◌, Option, None, refl, ap, sym}
+use Rattle.std.proofs.Common.{ℕ, ◌∙◌, ◌%◌, ◌+◌, Option, None, ap, sym}
 use Rattle.std.specs.Option.{option_or}
 use Rattle.lf_model.specs.Conditions.{condition_holds}
 use Rattle.lf_model.specs.Traps.{when}

@@ -7,7 +7,6 @@ use Rattle.lf_model.specs.OrdinaryTraps.{ordinary_trap}
 use Rattle.lf_model.specs.Instructions.{registers_read}
 use Rattle.lf_model.specs.Step.{Parts, state_of, run_seen, first_bad}
 use Rattle.lf_model.specs.declared.instruction.Instr.TheVariants.{Alternate}
-use Rattle.lf_model.specs.declared.instruction.Src.TheVariants.{Reg}
 use Rattle.v8_exec.proofs.CellLemmas.{touched_bad, touched_trap}
 use Rattle.v8_exec.proofs.TrapLemmas.{stops, trap_does}
 use Rattle.v8_exec.proofs.CheckLemmas.{cleared, privileged_access}
