@@ -11,15 +11,13 @@ use Rattle.lf_model.specs.Course.Arrays.{Arrays, CellsRead, with_cache, struck_b
 use Rattle.lf_model.specs.Course.Attempt.{Attempt, comes_to, load_attempt, access_attempt, barrier_attempt, operation_attempt, trap_attempt, register_attempt, fetch_attempt, looked_attempt, attempt}
 use Rattle.lf_model.specs.Course.Outcome.{Outcome}
 use Rattle.lf_model.specs.Course.Outcome.Outcome.{NotTried, NoText, FetchMiss, BadRegister, OrdinaryTrap, LoadMiss, LoadHit, Store, Atomic, Barrier, Other}
-use Rattle.lf_model.specs.Effect.{Access, Effect}
+use Rattle.lf_model.specs.Effect.{AccessKind, Access, Effect}
 use Rattle.lf_model.specs.Flips.{Moment, is_bad_word, is_fixed_word}
 use Rattle.lf_model.specs.Flips.How.{ByReadBack}
 use Rattle.lf_model.specs.Flips.Moment.{Struck, Written}
 use Rattle.lf_model.specs.Promise.NeverStops.{was_bad}
 use Rattle.lf_model.specs.Start.{is_text_word}
 use Rattle.lf_model.specs.State.{State}
-use Rattle.lf_model.specs.declared.bus.OpKind.{OpKind}
-use Rattle.lf_model.specs.declared.bus.OpKind.TheVariants as kinds
 use Rattle.lf_model.specs.declared.bus.Why.{Why}
 use Rattle.lf_model.specs.declared.flip.Flip.{Flip}
 use Rattle.lf_model.specs.declared.flip.Flip.TheVariants.{Mem, Reg, Tag, Line}
@@ -146,11 +144,10 @@ well_load : (a : Arrays) (cache : Cache) (answer : LookUp) → Good a.cells → 
 well_load a cache (Hit slot) good = record { fine = refl; good = good }
 well_load a cache (Miss why) good = record { fine = refl; good = good }
 
-well_access : (x : Access) (a : Arrays) (kind : OpKind) → Good (access_attempt x a kind).arrays.cells → TriedWell a (access_attempt x a kind)
-well_access x a kinds.Load good = well_load a (look x.addr x.len a.data_cache).cache (look x.addr x.len a.data_cache).answer good
-well_access x a kinds.Store good = record { fine = refl; good = good }
-well_access x a kinds.Atomic good = record { fine = refl; good = good }
-well_access x a kinds.Lost good = record { fine = refl; good = good }
+well_access : (x : Access) (a : Arrays) (kind : AccessKind) → Good (access_attempt x a kind).arrays.cells → TriedWell a (access_attempt x a kind)
+well_access x a AccessKind.Load good = well_load a (look x.addr x.len a.data_cache).cache (look x.addr x.len a.data_cache).answer good
+well_access x a AccessKind.Store good = record { fine = refl; good = good }
+well_access x a AccessKind.Atomic good = record { fine = refl; good = good }
 
 well_barrier : (a : Arrays) (barrier : Option Why) → Good (barrier_attempt a barrier).arrays.cells → TriedWell a (barrier_attempt a barrier)
 well_barrier a None good = record { fine = refl; good = good }

@@ -18,7 +18,7 @@ use Rattle.lf_model.specs.Course.Turn.{is_past_steps, leaves_instruction, arrays
 use Rattle.lf_model.specs.Course.Turned.{exchanged, transferred, turn_wants, turn_errors, own_turn}
 use Rattle.lf_model.specs.Caches.Change.{snooped, updated}
 use Rattle.lf_model.specs.Course.Core.{is_store_kind}
-use Rattle.lf_model.specs.Effect.{Access, Effect}
+use Rattle.lf_model.specs.Effect.{Access, operation_kind, Effect}
 use Rattle.lf_model.specs.Flips.How.{Whole}
 use Rattle.lf_model.specs.Flips.Moment.{Written, Named}
 use Rattle.lf_model.specs.Names.{same_why}
@@ -39,7 +39,7 @@ cells_flushed (Some why) a good = good_if (same_why why Flush) (flush_by (Some F
 
 cells_updated : (access : Option Access) (a : Arrays) → Good (store_by access a).cells → Good a.cells
 cells_updated None a good = good
-cells_updated (Some x) a good = good_if (is_store_kind x.kind) (record a { data_cache = updated x.addr x.len a.data_cache }) a (λ good. good) good
+cells_updated (Some x) a good = good_if (is_store_kind (operation_kind x.kind)) (record a { data_cache = updated x.addr x.len a.data_cache }) a (λ good. good) good
 
 good_written : (cs : List ℕ) (a : Arrays) → Good (write_cells cs a).cells → Good a.cells
 good_written cs a good = good_befalls_each written (adds (Written Whole)) cs a.cells good

@@ -7,7 +7,7 @@ use Rattle.lf_model.specs.Course.Arrays.{Arrays, read_back, read_then, read_cell
 use Rattle.lf_model.specs.Course.Core.{is_store_kind}
 use Rattle.lf_model.specs.Course.LocalStep.{store_by, flush_by, retired_arrays}
 use Rattle.lf_model.specs.Course.Touches.{touched, unless_bad, read_touches, access_touches, barrier_touches, write_touches, retire_touches}
-use Rattle.lf_model.specs.Effect.{Access, Effect}
+use Rattle.lf_model.specs.Effect.{Access, operation_kind, Effect}
 use Rattle.lf_model.specs.Flips.{is_bad_word}
 use Rattle.lf_model.specs.Names.{same_why}
 use Rattle.lf_model.specs.declared.bus.Why.{Why}
@@ -44,7 +44,7 @@ module _ (flips : List (ℕ × Flip)) where
 
   update : (x : Option Access) (a : Arrays) → fold (touched flips) a (access_touches x) ≡ store_by x a
   update None a = refl
-  update (Some x) a = elim (cases_Bool (is_store_kind x.kind)) [
+  update (Some x) a = elim (cases_Bool (is_store_kind (operation_kind x.kind))) [
     | inl is_so ↦ rw is_so refl
     | inr not_so ↦ rw not_so refl
   ]

@@ -1,6 +1,6 @@
 -- Control transfer: CALL, JMPL, Bicc and Ticc (SPARC V8, chapter 5, control-transfer instructions, and appendix B, their
 -- definitions).
-use Rattle.std.specs.Prelude.{ℕ, ◌+◌, ◌*◌, ◌%◌, ◌^◌, ◌==◌, Bool, not, ◌&&◌, List, [], Option, if◌then◌else◌}
+use Rattle.std.specs.Prelude.{ℕ, ◌+◌, ◌*◌, ◌%◌, ◌^◌, ◌==◌, Bool, not, ◌&&◌, [], Option, if◌then◌else◌}
 use Rattle.lf_num.specs.Bits.{sign_extended}
 use Rattle.lf_model.specs.State.{State, with_register, advanced}
 use Rattle.lf_model.specs.Effect.{Effect, cell_written, sum_of_operands, changes}
@@ -23,14 +23,14 @@ abbrev pub call_target : State → ℕ → ℕ
 call_target s disp30 = (s.ctl.pc + 4 * disp30) % 2 ^ 32
 
 -- CALL: PC goes to register 15
-abbrev pub call_effect : List ℕ → ℕ → State → Effect
-call_effect registers disp30 s =
-    changes registers (cell_written s 15) (transferred (call_target s disp30) (with_register 15 s.ctl.pc s))
+abbrev pub call_effect : ℕ → State → Effect
+call_effect disp30 s =
+    changes (cell_written s 15) (transferred (call_target s disp30) (with_register 15 s.ctl.pc s))
 
 -- JMPL: PC goes to register rd, and the target is the sum of the operands
-abbrev pub jmpl_effect : List ℕ → ℕ → ℕ → Src → State → Effect
-jmpl_effect registers rd rs1 src s =
-    changes registers (cell_written s rd) (transferred (sum_of_operands s rs1 src) (with_register rd s.ctl.pc s))
+abbrev pub jmpl_effect : ℕ → ℕ → Src → State → Effect
+jmpl_effect rd rs1 src s =
+    changes (cell_written s rd) (transferred (sum_of_operands s rs1 src) (with_register rd s.ctl.pc s))
 
 -- the target of JMPL is no multiple of 4
 abbrev pub target_misaligned : State → ℕ → Src → Bool
@@ -55,8 +55,8 @@ abbrev pub branched : ℕ → Bool → ℕ → State → State
 branched cond a disp22 s = if condition_holds cond s.ctl.icc then taken cond a disp22 s else not_taken a s
 
 -- Bicc reads and writes no register
-abbrev pub bicc_effect : List ℕ → ℕ → Bool → ℕ → State → Effect
-bicc_effect registers cond a disp22 s = changes registers [] (branched cond a disp22 s)
+abbrev pub bicc_effect : ℕ → Bool → ℕ → State → Effect
+bicc_effect cond a disp22 s = changes [] (branched cond a disp22 s)
 
 -- ---- Ticc
 

@@ -1,11 +1,11 @@
 -- The instructions that calculate a register's value, the condition codes and Y (SPARC V8, appendix B, logical, shift,
 -- add, tagged add, subtract, tagged subtract, multiply step, multiply and divide instructions).
-use Rattle.std.specs.Prelude.{ℕ, ◌*◌, ◌^◌, ◌==◌, Bool, true, false, ◌&&◌, List, bit_and, bit_or, bit_xor}
+use Rattle.std.specs.Prelude.{ℕ, ◌*◌, ◌^◌, true, false, bit_and, bit_or, bit_xor}
 use Rattle.std.specs.Int.{bit_at}
-use Rattle.lf_num.specs.Arithmetic.{word_sum, sum_icc, word_difference, difference_icc, and_not, or_not, xor_not, plain_icc, shifted_left, shifted_right, shifted_right_signed, product, low_word, high_word, quotient, quotient_icc, step_augend, step_addend, step_y, tagged_sum_icc, tagged_difference_icc}
+use Rattle.lf_num.specs.Arithmetic.{word_sum, sum_icc, word_difference, difference_icc, and_not, or_not, xor_not, plain_icc, shifted_left, shifted_right, shifted_right_signed, product, low_word, quotient, quotient_icc, step_augend, step_addend, tagged_sum_icc, tagged_difference_icc}
 use Rattle.lf_model.specs.State.{State, register, operand, with_register, advanced}
 use Rattle.lf_model.specs.Effect.{Effect, cell_written, changes, sets}
-use Rattle.lf_model.specs.Conditions.{codes_of}
+use Rattle.lf_model.specs.Families.{y_after}
 use Rattle.lf_model.specs.declared.instruction.Src.{Src}
 use Rattle.lf_model.specs.declared.instruction.CalcName.{CalcName}
 use Rattle.lf_model.specs.declared.instruction.CalcName.TheVariants.{Add, AddCc, And, AndCc, Or, OrCc, Xor, XorCc, Sub, SubCc, AndN, AndNCc, OrN, OrNCc, XNor, XNorCc, AddX, AddXCc, SubX, SubXCc, UMul, UMulCc, SMul, SMulCc, UDiv, UDivCc, SDiv, SDivCc, TAddCc, TSubCc, TAddCcTv, TSubCcTv, MulScc, Sll, Srl, Sra}
@@ -74,34 +74,23 @@ icc_after TAddCc a b icc y = tagged_sum_icc a b
 icc_after TAddCcTv a b icc y = tagged_sum_icc a b
 icc_after TSubCc a b icc y = tagged_difference_icc a b
 icc_after TSubCcTv a b icc y = tagged_difference_icc a b
-icc_after _ a b icc y = icc
-
--- Y afterwards: the high word of a product, or what a multiply step leaves
-unfoldable pub y_after : CalcName → ℕ → ℕ → ℕ → ℕ
-y_after UMul a b y = high_word (product false a b)
-y_after UMulCc a b y = high_word (product false a b)
-y_after SMul a b y = high_word (product true a b)
-y_after SMulCc a b y = high_word (product true a b)
-y_after MulScc a b y = step_y a y
-y_after _ a b y = y
-
--- V of a TV form would be 1
-unfoldable pub overflows_tag : CalcName → ℕ → ℕ → Bool
-overflows_tag TAddCcTv a b = (codes_of (tagged_sum_icc a b)).v
-overflows_tag TSubCcTv a b = (codes_of (tagged_difference_icc a b)).v
-overflows_tag _ a b = false
-
--- the divide instructions
-abbrev pub is_division : CalcName → Bool
-is_division UDiv = true
-is_division UDivCc = true
-is_division SDiv = true
-is_division SDivCc = true
-is_division _ = false
-
--- a division by 0
-unfoldable pub divides_by_zero : CalcName → ℕ → Bool
-divides_by_zero name b = is_division name && b == 0
+icc_after Add a b icc y = icc
+icc_after And a b icc y = icc
+icc_after Or a b icc y = icc
+icc_after Xor a b icc y = icc
+icc_after Sub a b icc y = icc
+icc_after AndN a b icc y = icc
+icc_after OrN a b icc y = icc
+icc_after XNor a b icc y = icc
+icc_after AddX a b icc y = icc
+icc_after SubX a b icc y = icc
+icc_after UMul a b icc y = icc
+icc_after SMul a b icc y = icc
+icc_after UDiv a b icc y = icc
+icc_after SDiv a b icc y = icc
+icc_after Sll a b icc y = icc
+icc_after Srl a b icc y = icc
+icc_after Sra a b icc y = icc
 
 -- the state with a value, icc and Y as they are calculated
 abbrev pub calculated : CalcName → ℕ → ℕ → ℕ → State → State
@@ -109,10 +98,10 @@ calculated name rd a b s = with_register rd (result_of name a b s.ctl.icc s.y)
     (record s { ctl = record s.ctl { icc = icc_after name a b s.ctl.icc s.y }; y = y_after name a b s.y })
 
 -- rd gets the result, and icc and Y become as they are calculated
-abbrev pub calc_effect : List ℕ → CalcName → ℕ → ℕ → Src → State → Effect
-calc_effect registers name rd rs1 src s =
-    changes registers (cell_written s rd) (advanced (calculated name rd (register s rs1) (operand s src) s))
+abbrev pub calc_effect : CalcName → ℕ → ℕ → Src → State → Effect
+calc_effect name rd rs1 src s =
+    changes (cell_written s rd) (advanced (calculated name rd (register s rs1) (operand s src) s))
 
 -- SETHI: rd gets imm22 in its high bits
-abbrev pub sethi_effect : List ℕ → ℕ → ℕ → State → Effect
-sethi_effect registers rd imm22 s = sets registers rd (imm22 * 2 ^ 10) s
+abbrev pub sethi_effect : ℕ → ℕ → State → Effect
+sethi_effect rd imm22 s = sets rd (imm22 * 2 ^ 10) s

@@ -5,7 +5,7 @@ use Rattle.lf_model.specs.Effect.{Effect}
 use Rattle.lf_model.specs.State.{cell}
 use Rattle.lf_model.specs.Step.{Parts, bad_register}
 use Rattle.lf_model.specs.declared.step.Did.{Did}
-use Rattle.lf_model.specs.declared.step.Did.TheVariants.{Retired}
+use Rattle.lf_model.specs.declared.step.Did.TheVariants.{Retired, Turned, Need, Halt, Stop}
 use Rattle.lf_model.specs.declared.step.RegBad.{RegBad}
 
 -- a register of the window is read; register 0 has no cell
@@ -31,7 +31,10 @@ after_cells write (c ∷ cells) x = after_cells write cells (write c x)
 -- only an instruction that retires writes its cells
 abbrev pub written_by : {X : Type 0} → (ℕ → X → X) → Did → List ℕ → X → X
 written_by write Retired cells x = after_cells write cells x
-written_by write _ cells x = x
+written_by write Turned cells x = x
+written_by write (Need turn) cells x = x
+written_by write (Halt tt_) cells x = x
+written_by write (Stop tt_ place syn) cells x = x
 
 -- an instruction with this effect came to this: it read its registers, in order, up to the first that is bad, and wrote its
 -- cells if it retired. An atomic comes to the need of its turn, and its cells are written behind that.

@@ -5,6 +5,7 @@ use Rattle.lf_model.specs.State.{State, cell, register, operand, with_register, 
 use Rattle.lf_model.specs.declared.image.Image.{Image}
 use Rattle.lf_model.specs.declared.bus.Why.{Why}
 use Rattle.lf_model.specs.declared.bus.OpKind.{OpKind}
+use Rattle.lf_model.specs.declared.bus.OpKind.TheVariants as kinds
 use Rattle.lf_model.specs.declared.instruction.Src.{Src}
 
 -- where an instruction runs: the core's number, the image, and how many bytes RAM has
@@ -13,10 +14,22 @@ pub record Site : Type 0 where
   pub image : Image
   pub ram : ℕ
 
--- a memory operation that an instruction asks for: a load, a store or an atomic, its address and length in bytes,
--- the number that it stores (0 for a load) and the register that gets what it reads (0 for a store)
+-- what an instruction asks of memory
+pub data AccessKind : Type 0 where
+  Load : AccessKind
+  Store : AccessKind
+  Atomic : AccessKind
+
+-- the kind of the operation that an access makes
+abbrev pub operation_kind : AccessKind → OpKind
+operation_kind Load = kinds.Load
+operation_kind Store = kinds.Store
+operation_kind Atomic = kinds.Atomic
+
+-- a memory operation that an instruction asks for: its kind, its address and length in bytes, the number that it stores
+-- (0 for a load) and the register that gets what it reads (0 for a store)
 pub record Access : Type 0 where
-  pub kind : OpKind
+  pub kind : AccessKind
   pub addr : ℕ
   pub len : ℕ
   pub put : ℕ
@@ -40,10 +53,16 @@ cell_written s rd = if rd == 0 then [] else cell s.ctl.cwp rd ∷ []
 abbrev pub sum_of_operands : State → ℕ → Src → ℕ
 sum_of_operands s rs1 src = word_sum (register s rs1) (operand s src) 0
 
--- no trap, no operation and no barrier: these registers are read, these cells are written, and this is the next state
-abbrev pub changes : List ℕ → List ℕ → State → Effect
-changes registers cells next = record {
-  reads = registers;
+-- the effect of an instruction that reads these registers
+abbrev pub with_reads : List ℕ → Effect → Effect
+with_reads registers e = record e { reads = registers }
+
+-- ---- effects without the registers read, which are set where the effects of all instructions are joined
+
+-- no trap, no operation and no barrier: these cells are written, and this is the next state
+abbrev pub changes : List ℕ → State → Effect
+changes cells next = record {
+  reads = [];
   trap = None;
   access = None;
   barrier = None;
@@ -52,9 +71,9 @@ changes registers cells next = record {
 }
 
 -- this memory operation, and no trap and no barrier: the next state is by the number that the operation reads
-abbrev pub operates : List ℕ → Access → List ℕ → (ℕ → State) → Effect
-operates registers access cells next = record {
-  reads = registers;
+abbrev pub operates : Access → List ℕ → (ℕ → State) → Effect
+operates access cells next = record {
+  reads = [];
   trap = None;
   access = Some access;
   barrier = None;
@@ -63,9 +82,9 @@ operates registers access cells next = record {
 }
 
 -- nothing but PC and nPC changes
-abbrev pub advances : List ℕ → State → Effect
-advances registers s = changes registers [] (advanced s)
+abbrev pub advances : State → Effect
+advances s = changes [] (advanced s)
 
 -- a value goes to register rd
-abbrev pub sets : List ℕ → ℕ → ℕ → State → Effect
-sets registers rd value s = changes registers (cell_written s rd) (advanced (with_register rd value s))
+abbrev pub sets : ℕ → ℕ → State → Effect
+sets rd value s = changes (cell_written s rd) (advanced (with_register rd value s))

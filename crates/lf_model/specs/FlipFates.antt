@@ -8,13 +8,13 @@ use Rattle.lf_model.specs.WordHistory.{Naming, with_name, history}
 use Rattle.lf_model.specs.RegisterUse.{cell_at_end}
 use Rattle.lf_model.specs.StopCause.{transfers_of, access_after, lowest_bad, word_of}
 use Rattle.lf_model.specs.declared.flip.Flip.{Flip}
-use Rattle.lf_model.specs.declared.flip.Flip.TheVariants.{Mem, Reg}
+use Rattle.lf_model.specs.declared.flip.Flip.TheVariants.{Mem, Reg, Tag, Line}
 use Rattle.lf_model.specs.declared.setup.Setup.{Setup}
 use Rattle.lf_model.specs.declared.trace.CoreEnd.{CoreEnd}
-use Rattle.lf_model.specs.declared.trace.CoreEnd.TheVariants.{Stop}
+use Rattle.lf_model.specs.declared.trace.CoreEnd.TheVariants.{Halt, Stop, Limit}
 use Rattle.lf_model.specs.declared.trace.CoreResult.{CoreResult}
 use Rattle.lf_model.specs.declared.trace.Fate.{Fate}
-use Rattle.lf_model.specs.declared.trace.Fate.TheVariants.{Late, Declined}
+use Rattle.lf_model.specs.declared.trace.Fate.TheVariants.{Late, Declined, Repaired, Discarded, Stopped, Overwritten, Dormant}
 use Rattle.lf_model.specs.declared.trace.Trace.{Trace}
 use Rattle.lf_model.specs.declared.bus.Transfer.{Transfer}
 
@@ -28,7 +28,8 @@ abbrev pub naming_of : Setup → Trace → ℕ → CoreResult → CoreEnd → Op
 naming_of setup trace c r (Stop tt_ place syn) = option_map (λ word. record { turn = place; word = word })
     (if tt_ == 0x09 then word_wanted setup trace c r.n place
     else if tt_ == 0x2B then option_map word_of (slice_get trace.transfers place) else None)
-naming_of setup trace c r _ = None
+naming_of setup trace c r (Halt tt_) = None
+naming_of setup trace c r Limit = None
 
 abbrev pub naming_at : Setup → Trace → ℕ → Option Naming
 naming_at setup trace c = option_and_then (λ r. naming_of setup trace c r r.end) (slice_get trace.cores c)
@@ -40,7 +41,8 @@ namings setup trace = filter_map (naming_at setup trace) (range_with_len 0 (leng
 -- an end names this register cell
 abbrev pub names_cell : CoreEnd → ℕ → Bool
 names_cell (Stop tt_ place syn) cell = tt_ == 0x20 && place == cell
-names_cell _ cell = false
+names_cell (Halt tt_) cell = false
+names_cell Limit cell = false
 
 -- the history of a register cell at the end, with the core's stop behind it if that names the cell
 abbrev pub cell_named_at_end : Setup → Trace → ℕ → CoreResult → ℕ → List Moment
@@ -51,15 +53,26 @@ unfoldable pub fate_of_flip : Setup → Trace → ℕ → Flip → Option Fate
 fate_of_flip setup trace i (Mem turn addr bit) = Some (fate_of word_budget i (history setup.flips (namings setup trace) addr (transfers_of trace)))
 fate_of_flip setup trace i (Reg core step cell bit) =
     Some (option_map_or (λ r. fate_of word_budget i (cell_named_at_end setup trace core r cell)) (slice_get trace.cores core) Late)
-fate_of_flip setup trace i _ = None
+fate_of_flip setup trace i (Tag core step fetch way set byte bit) = None
+fate_of_flip setup trace i (Line core step fetch way set byte bit) = None
 
 abbrev pub is_late : Fate → Bool
 is_late Late = true
-is_late _ = false
+is_late Declined = false
+is_late Repaired = false
+is_late Discarded = false
+is_late Stopped = false
+is_late Overwritten = false
+is_late Dormant = false
 
 abbrev pub is_declined : Fate → Bool
 is_declined Declined = true
-is_declined _ = false
+is_declined Late = false
+is_declined Repaired = false
+is_declined Discarded = false
+is_declined Stopped = false
+is_declined Overwritten = false
+is_declined Dormant = false
 
 -- a fate tells whether a flip is late, as it never came, and whether it is declined, as it came and was not applied
 pub record TellsOutcome (came applied : Bool) (fate : Fate) : Type 0 where
@@ -75,7 +88,9 @@ TellsMemoryFlip script transfers i turn addr fate =
 
 abbrev pub TellsFlip : List Flip → List Transfer → ℕ → Flip → Fate → Type 0
 TellsFlip script transfers i (Mem turn addr bit) fate = TellsMemoryFlip script transfers i turn addr fate
-TellsFlip script transfers i _ fate = is_late fate ≡ true
+TellsFlip script transfers i (Reg core step cell bit) fate = is_late fate ≡ true
+TellsFlip script transfers i (Tag core step fetch way set byte bit) fate = is_late fate ≡ true
+TellsFlip script transfers i (Line core step fetch way set byte bit) fate = is_late fate ≡ true
 
 pub record TellsFates (script : List Flip) (transfers : List Transfer) (fates : List Fate) : Type 0 where
   pub count : length fates ≡ length script
@@ -92,7 +107,8 @@ TellsRegisterFlip setup trace i c step cell fate (Some r) =
 abbrev pub TellsFlipIn : Setup → Trace → ℕ → Flip → Fate → Type 0
 TellsFlipIn setup trace i (Mem turn addr bit) fate = TellsMemoryFlip setup.flips (transfers_of trace) i turn addr fate
 TellsFlipIn setup trace i (Reg core step cell bit) fate = TellsRegisterFlip setup trace i core step cell fate (slice_get trace.cores core)
-TellsFlipIn setup trace i _ fate = is_late fate ≡ true
+TellsFlipIn setup trace i (Tag core step fetch way set byte bit) fate = is_late fate ≡ true
+TellsFlipIn setup trace i (Line core step fetch way set byte bit) fate = is_late fate ≡ true
 
 -- the fates of a trace tell its late and declined flips
 pub record HasFates (setup : Setup) (trace : Trace) : Type 0 where

@@ -83,7 +83,16 @@ restore w = Restore (rd_of w) (rs1_of w) (src_of w)
 abbrev pub rd_fits : MemName → ℕ → Bool
 rd_fits Ldd rd = rd % 2 == 0
 rd_fits Std rd = rd % 2 == 0
-rd_fits _ rd = true
+rd_fits Ld rd = true
+rd_fits Ldub rd = true
+rd_fits Lduh rd = true
+rd_fits St rd = true
+rd_fits Stb rd = true
+rd_fits Sth rd = true
+rd_fits Ldsb rd = true
+rd_fits Ldsh rd = true
+rd_fits Ldstub rd = true
+rd_fits Swap rd = true
 
 abbrev pub mem : MemName → ℕ → Instr
 mem name w = if rd_fits name (rd_of w) then Mem name (rd_of w) (rs1_of w) (src_of w) else Illegal
@@ -203,7 +212,15 @@ register_fields (Save rd rs1 src) = rd ∷ rs1 ∷ src_registers src
 register_fields (Restore rd rs1 src) = rd ∷ rs1 ∷ src_registers src
 register_fields (Mem name rd rs1 src) = rd ∷ rs1 ∷ src_registers src
 register_fields (Alternate name rd rs1 rs2 asi) = rd ∷ rs1 ∷ rs2 ∷ []
-register_fields _ = []
+register_fields Illegal = []
+register_fields AltIllegal = []
+register_fields FpOff = []
+register_fields CpOff = []
+register_fields FpQueue = []
+register_fields CpQueue = []
+register_fields Stbar = []
+register_fields (Call disp30) = []
+register_fields (Bicc cond a disp22) = []
 
 -- the register numbers are below 32
 abbrev pub registers_fit : Instr → Bool
@@ -235,7 +252,14 @@ numbers_fit (Save rd rs1 src) = imm_fits src
 numbers_fit (Restore rd rs1 src) = imm_fits src
 numbers_fit (Mem name rd rs1 src) = rd_fits name rd && imm_fits src
 numbers_fit (Alternate name rd rs1 rs2 asi) = rd_fits name rd && nat_lt asi (2 ^ 8)
-numbers_fit _ = true
+numbers_fit Illegal = true
+numbers_fit AltIllegal = true
+numbers_fit FpOff = true
+numbers_fit CpOff = true
+numbers_fit FpQueue = true
+numbers_fit CpQueue = true
+numbers_fit Stbar = true
+numbers_fit (ReadState name rd) = true
 
 -- each field is in its range
 abbrev pub in_range : Instr → Bool
@@ -254,7 +278,13 @@ stored_registers Stb rd = rd ∷ []
 stored_registers Sth rd = rd ∷ []
 stored_registers Std rd = rd ∷ (rd + 1) ∷ []
 stored_registers Swap rd = rd ∷ []
-stored_registers _ rd = []
+stored_registers Ld rd = []
+stored_registers Ldub rd = []
+stored_registers Lduh rd = []
+stored_registers Ldd rd = []
+stored_registers Ldsb rd = []
+stored_registers Ldsh rd = []
+stored_registers Ldstub rd = []
 
 abbrev pub registers_read : Instr → List ℕ
 registers_read (Calc name rd rs1 src) = operand_registers rs1 src
@@ -268,14 +298,27 @@ registers_read (Save rd rs1 src) = operand_registers rs1 src
 registers_read (Restore rd rs1 src) = operand_registers rs1 src
 registers_read (Mem name rd rs1 src) = operand_registers rs1 src ++ stored_registers name rd
 registers_read (Alternate name rd rs1 rs2 asi) = operand_registers rs1 (Reg rs2) ++ stored_registers name rd
-registers_read _ = []
+registers_read Illegal = []
+registers_read AltIllegal = []
+registers_read FpOff = []
+registers_read CpOff = []
+registers_read FpQueue = []
+registers_read CpQueue = []
+registers_read Stbar = []
+registers_read (Call disp30) = []
+registers_read (Sethi rd imm22) = []
+registers_read (Bicc cond a disp22) = []
+registers_read (ReadState name rd) = []
+registers_read (ReadAsr rd rs1) = []
 
 -- ---- privilege
 
 -- PSR, WIM and TBR are for the supervisor, Y for all
 abbrev pub is_privileged_state : StateName → Bool
 is_privileged_state Y = false
-is_privileged_state _ = true
+is_privileged_state Psr = true
+is_privileged_state Wim = true
+is_privileged_state Tbr = true
 
 -- an instruction that is for the supervisor alone: in user mode it traps privileged_instruction
 abbrev pub is_privileged : Instr → Bool
@@ -286,4 +329,19 @@ is_privileged (ReadState name rd) = is_privileged_state name
 is_privileged (WriteState name rs1 src) = is_privileged_state name
 is_privileged (Rett rs1 src) = true
 is_privileged (Alternate name rd rs1 rs2 asi) = true
-is_privileged _ = false
+is_privileged Illegal = false
+is_privileged FpOff = false
+is_privileged CpOff = false
+is_privileged Stbar = false
+is_privileged (Call disp30) = false
+is_privileged (Sethi rd imm22) = false
+is_privileged (Bicc cond a disp22) = false
+is_privileged (Calc name rd rs1 src) = false
+is_privileged (Ticc cond rs1 src) = false
+is_privileged (ReadAsr rd rs1) = false
+is_privileged (WriteAsr rd rs1 src) = false
+is_privileged (Jmpl rd rs1 src) = false
+is_privileged (Flush rs1 src) = false
+is_privileged (Save rd rs1 src) = false
+is_privileged (Restore rd rs1 src) = false
+is_privileged (Mem name rd rs1 src) = false

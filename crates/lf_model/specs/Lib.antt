@@ -6,6 +6,7 @@ pub mod Operation
 pub mod Effect
 pub mod Traps
 pub mod Conditions
+pub mod Families
 pub mod Calculation
 pub mod Branches
 pub mod Windows

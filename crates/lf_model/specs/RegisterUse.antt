@@ -8,10 +8,10 @@ use Rattle.lf_model.specs.Flips.{Moment, is_bad_word}
 use Rattle.lf_model.specs.RegisterHistory.{CellUse, cell_histories, cells_met, use_in, uses_of}
 use Rattle.lf_model.specs.declared.bus.Transfer.{Transfer}
 use Rattle.lf_model.specs.declared.bus.TurnKind.{TurnKind}
-use Rattle.lf_model.specs.declared.bus.TurnKind.TheVariants.{Load}
+use Rattle.lf_model.specs.declared.bus.TurnKind.TheVariants.{Fetch, Load, Store, Atomic, Snoop, Look, Fix}
 use Rattle.lf_model.specs.declared.setup.Setup.{Setup}
 use Rattle.lf_model.specs.declared.trace.CoreEnd.{CoreEnd}
-use Rattle.lf_model.specs.declared.trace.CoreEnd.TheVariants.{Stop}
+use Rattle.lf_model.specs.declared.trace.CoreEnd.TheVariants.{Halt, Stop, Limit}
 use Rattle.lf_model.specs.declared.trace.CoreResult.{CoreResult}
 use Rattle.lf_model.specs.declared.trace.Trace.{Trace}
 
@@ -19,7 +19,12 @@ use Rattle.lf_model.specs.declared.trace.Trace.{Trace}
 
 abbrev pub is_load_fill : TurnKind → Bool
 is_load_fill Load = true
-is_load_fill _ = false
+is_load_fill Fetch = false
+is_load_fill Store = false
+is_load_fill Atomic = false
+is_load_fill Snoop = false
+is_load_fill Look = false
+is_load_fill Fix = false
 
 -- the transfer is a load's fill that core c made in this step
 abbrev pub is_fill_in : ℕ → ℕ → Transfer → Bool
@@ -28,7 +33,8 @@ is_fill_in c step t = t.master == c && t.step == step && is_load_fill t.kind
 -- an error trap ends the core before its instruction; only `data_store_error`, 2B, comes behind the store that retired
 abbrev pub stops_before : CoreEnd → Bool
 stops_before (Stop tt_ place syn) = not (tt_ == 0x2B)
-stops_before _ = false
+stops_before (Halt tt_) = false
+stops_before Limit = false
 
 -- a step retires its instruction unless it makes a fill, or is the last step of a core that an error trap ends before its
 -- instruction

@@ -5,7 +5,7 @@ use Rattle.std.specs.Prelude.{ℕ, zero, suc, ◌∷◌, ◌++◌, [], List, len
 use Rattle.lf_model.specs.Start.{is_text_word, word_at}
 use Rattle.lf_model.specs.State.{State, reset}
 use Rattle.lf_model.specs.Operation.{kind_reads, entry_reads}
-use Rattle.lf_model.specs.Effect.{Site, Access, Effect}
+use Rattle.lf_model.specs.Effect.{Site, Access, operation_kind, Effect}
 use Rattle.lf_model.specs.Traps.{fetch_trap}
 use Rattle.lf_model.specs.Effects.{effect}
 use Rattle.lf_model.specs.Instructions.{instruction_of}
@@ -19,7 +19,7 @@ pub record Run : Type 0 where
 
 -- operation number k of a core, with the number that it read
 abbrev pub operation : ℕ → ℕ → ℕ → Access → Entry
-operation core k got a = record { got = got; put = a.put; core = core; k = k; addr = a.addr; kind = a.kind; len = a.len }
+operation core k got a = record { got = got; put = a.put; core = core; k = k; addr = a.addr; kind = operation_kind a.kind; len = a.len }
 
 -- the operations with the one asked for, if there is one
 abbrev pub with_access : ℕ → ℕ → Option Access → List Entry → List Entry
@@ -37,7 +37,7 @@ reads_of ops = count_by entry_reads ops
 -- the number that the operation reads: the next answer, and 0 where it reads none
 abbrev pub answer_to : List ℕ → List Entry → Option Access → ℕ
 answer_to answers ops None = 0
-answer_to answers ops (Some a) = if kind_reads a.kind then slice_index answers (reads_of ops) else 0
+answer_to answers ops (Some a) = if kind_reads (operation_kind a.kind) then slice_index answers (reads_of ops) else 0
 
 abbrev pub site_of : Setup → ℕ → Site
 site_of setup core = record { core = core; image = setup.image; ram = setup.config.ram }

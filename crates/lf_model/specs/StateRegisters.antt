@@ -1,7 +1,7 @@
 -- Reading and writing Y, PSR, WIM, TBR and the ancillary state registers (SPARC V8, chapter 4, control and status
 -- registers; appendix B, read and write state register instructions; GRLIB, LEON3FT, processor configuration register).
 -- What is written is there at once, not some instructions later.
-use Rattle.std.specs.Prelude.{ℕ, ◌+◌, ◌*◌, ◌%◌, ◌^◌, ◌==◌, Bool, false, List, [], if◌then◌else◌, nat_lt, bit_xor}
+use Rattle.std.specs.Prelude.{ℕ, ◌+◌, ◌*◌, ◌%◌, ◌^◌, ◌==◌, Bool, false, [], if◌then◌else◌, nat_lt, bit_xor}
 use Rattle.std.specs.Int.{bit_at}
 use Rattle.lf_model.specs.Fields.{bits_of}
 use Rattle.lf_model.specs.State.{State, register, operand, advanced, psr_of}
@@ -26,12 +26,12 @@ state_value Wim s = s.wim
 state_value Tbr s = s.ctl.tbr
 
 -- a state register goes to register rd
-abbrev pub read_state_effect : List ℕ → StateName → ℕ → State → Effect
-read_state_effect registers name rd s = sets registers rd (state_value name s) s
+abbrev pub read_state_effect : StateName → ℕ → State → Effect
+read_state_effect name rd s = sets rd (state_value name s) s
 
 -- RDASR: an ancillary state register goes to register rd
-abbrev pub read_asr_effect : List ℕ → ℕ → ℕ → ℕ → State → Effect
-read_asr_effect registers core rd number s = sets registers rd (asr_value core number) s
+abbrev pub read_asr_effect : ℕ → ℕ → ℕ → State → Effect
+read_asr_effect core rd number s = sets rd (asr_value core number) s
 
 -- ---- writing
 
@@ -42,7 +42,9 @@ written_value s rs1 src = bit_xor (register s rs1) (operand s src)
 -- the value is none that PSR may get: its CWP field, bits 4 to 0, names none of the 8 windows
 abbrev pub names_no_window : StateName → ℕ → Bool
 names_no_window Psr value = nat_lt 7 (bits_of value 4 0)
-names_no_window _ value = false
+names_no_window Y value = false
+names_no_window Wim value = false
+names_no_window Tbr value = false
 
 -- the parts of PSR that WRPSR writes; impl and ver stay, and EC and EF stay 0
 abbrev pub psr_parts : ℕ → Ctl → Ctl
@@ -66,5 +68,5 @@ with_state Psr value s = record s { ctl = psr_parts value s.ctl }
 with_state Wim value s = record s { wim = bits_of value 7 0 }
 with_state Tbr value s = with_base value s
 
-abbrev pub write_state_effect : List ℕ → StateName → ℕ → Src → State → Effect
-write_state_effect registers name rs1 src s = changes registers [] (advanced (with_state name (written_value s rs1 src) s))
+abbrev pub write_state_effect : StateName → ℕ → Src → State → Effect
+write_state_effect name rs1 src s = changes [] (advanced (with_state name (written_value s rs1 src) s))

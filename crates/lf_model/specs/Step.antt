@@ -5,11 +5,9 @@ use Rattle.std.specs.Prelude.{ℕ, ◌≡◌, ◌<◌, ◌%◌, ◌==◌, ◌∷
 use Rattle.std.specs.Option.{option_or}
 use Rattle.lf_model.specs.State.{State, cell}
 use Rattle.lf_model.specs.Operation.{kind_reads}
-use Rattle.lf_model.specs.Effect.{Site, Access, Effect}
+use Rattle.lf_model.specs.Effect.{Site, AccessKind, Access, operation_kind, Effect}
 use Rattle.lf_model.specs.Run.{Run, performed, with_access}
 use Rattle.lf_model.specs.declared.bus.Entry.{Entry}
-use Rattle.lf_model.specs.declared.bus.OpKind.{OpKind}
-use Rattle.lf_model.specs.declared.bus.OpKind.TheVariants as kinds
 use Rattle.lf_model.specs.declared.bus.Why.{Why}
 use Rattle.lf_model.specs.declared.bus.Why.TheVariants as whys
 use Rattle.lf_model.specs.declared.control.Arch.{Arch}
@@ -18,7 +16,7 @@ use Rattle.lf_model.specs.declared.step.Look.TheVariants.{Hit, Miss}
 use Rattle.lf_model.specs.declared.step.RegBad.{RegBad}
 use Rattle.lf_model.specs.declared.step.Turn.TheVariants.{Load, Atomic, Drain}
 use Rattle.lf_model.specs.declared.step.Did.{Did}
-use Rattle.lf_model.specs.declared.step.Did.TheVariants.{Retired, Need, Halt, Stop}
+use Rattle.lf_model.specs.declared.step.Did.TheVariants.{Retired, Turned, Need, Halt, Stop}
 
 -- what a core shows an instruction: where it runs, the value of each register cell, the output and the operations
 -- so far
@@ -57,12 +55,12 @@ recorded got a seen = record seen { ops = with_access seen.site.core got (Some a
 
 -- after a look-up of the data cache: a hit is a load
 abbrev pub after_look : ℕ → ℕ → Look → Seen → Seen
-after_look addr len (Hit value way) seen = recorded value (record { kind = kinds.Load; addr = addr; len = len; put = 0; rd = 0 }) seen
+after_look addr len (Hit value way) seen = recorded value (record { kind = AccessKind.Load; addr = addr; len = len; put = 0; rd = 0 }) seen
 after_look addr len (Miss why) seen = seen
 
 -- after a store, if the store buffer had room
 abbrev pub after_store : ℕ → ℕ → ℕ → Bool → Seen → Seen
-after_store addr len value true seen = recorded 0 (record { kind = kinds.Store; addr = addr; len = len; put = value; rd = 0 }) seen
+after_store addr len value true seen = recorded 0 (record { kind = AccessKind.Store; addr = addr; len = len; put = value; rd = 0 }) seen
 after_store addr len value false seen = seen
 
 -- a cell as it reads, by its syndrome if it reads bad
@@ -110,11 +108,10 @@ miss_row parts a (Hit value way) = None
 miss_row parts a (Miss why) = Some (drains_first parts whys.Miss (Need (Load a.addr a.len why)))
 
 -- a store finds the store buffer full; an atomic is a turn on the bus
-abbrev pub kind_row : Parts → Access → OpKind → Option Did
-kind_row parts a kinds.Load = miss_row parts a (parts.look a.addr a.len)
-kind_row parts a kinds.Store = if parts.full then Some (Need (Drain whys.Full)) else None
-kind_row parts a kinds.Atomic = Some (drains_first parts whys.Atomic (Need (Atomic a.addr a.len a.put a.rd)))
-kind_row parts a kinds.Lost = None
+abbrev pub kind_row : Parts → Access → AccessKind → Option Did
+kind_row parts a AccessKind.Load = miss_row parts a (parts.look a.addr a.len)
+kind_row parts a AccessKind.Store = if parts.full then Some (Need (Drain whys.Full)) else None
+kind_row parts a AccessKind.Atomic = Some (drains_first parts whys.Atomic (Need (Atomic a.addr a.len a.put a.rd)))
 
 abbrev pub access_row : Parts → Option Access → Option Did
 access_row parts None = None
@@ -142,13 +139,16 @@ looked (Miss why) = 0
 
 abbrev pub answer_of : Parts → Option Access → ℕ
 answer_of parts None = 0
-answer_of parts (Some a) = if kind_reads a.kind then looked (parts.look a.addr a.len) else 0
+answer_of parts (Some a) = if kind_reads (operation_kind a.kind) then looked (parts.look a.addr a.len) else 0
 
 -- the run after it: the instruction is performed where it retires, and else all is as before. In error mode, too, the
 -- registers and the operations are as before, and the answer tells the trap type.
 abbrev pub run_after : ℕ → Parts → Did → Effect → Run → Run
 run_after core parts Retired e r = performed core (answer_of parts e.access) e r
-run_after core parts _ e r = r
+run_after core parts Turned e r = r
+run_after core parts (Need turn) e r = r
+run_after core parts (Halt tt_) e r = r
+run_after core parts (Stop tt_ place syn) e r = r
 
 -- what an instruction with this effect comes to and leaves
 pub record Does (core : ℕ) (parts : Parts) (e : Effect) (did : Did) (old new : Run) : Type 0 where
@@ -159,4 +159,6 @@ pub record Does (core : ℕ) (parts : Parts) (e : Effect) (did : Did) (old new :
 abbrev pub counted : Did → ℕ
 counted Retired = 1
 counted (Halt tt_) = 1
-counted _ = 0
+counted Turned = 0
+counted (Need turn) = 0
+counted (Stop tt_ place syn) = 0

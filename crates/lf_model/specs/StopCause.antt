@@ -5,7 +5,7 @@ use Rattle.std.specs.Prelude.{ℕ, ◌≡◌, ◌≢◌, ◌+◌, ◌-◌, ◌*�
 use Rattle.std.specs.List.{AllByRecursion, list_any, range_with_len}
 use Rattle.std.specs.Option.{IsSomeAnd}
 use Rattle.lf_model.specs.Operation.{enters}
-use Rattle.lf_model.specs.Effect.{Access}
+use Rattle.lf_model.specs.Effect.{AccessKind, Access}
 use Rattle.lf_model.specs.Run.{effect_at_pc}
 use Rattle.lf_model.specs.Execution.{run_of_core}
 use Rattle.lf_model.specs.Places.{FailsNowhere}
@@ -14,14 +14,12 @@ use Rattle.lf_model.specs.Flips.{Moment, is_bad_word, syndrome}
 use Rattle.lf_model.specs.RegisterHistory.{retired_before}
 use Rattle.lf_model.specs.RegisterUse.{retires_in, cell_met, first_bad_read}
 use Rattle.lf_model.specs.WordHistory.{begun, history}
-use Rattle.lf_model.specs.declared.bus.OpKind.{OpKind}
-use Rattle.lf_model.specs.declared.bus.OpKind.TheVariants as kinds
 use Rattle.lf_model.specs.declared.bus.Transfer.{Transfer}
 use Rattle.lf_model.specs.declared.bus.TurnKind.{TurnKind}
-use Rattle.lf_model.specs.declared.bus.TurnKind.TheVariants.{Load, Store, Atomic}
+use Rattle.lf_model.specs.declared.bus.TurnKind.TheVariants.{Fetch, Load, Store, Atomic, Snoop, Look, Fix}
 use Rattle.lf_model.specs.declared.setup.Setup.{Setup}
 use Rattle.lf_model.specs.declared.trace.CoreEnd.{CoreEnd}
-use Rattle.lf_model.specs.declared.trace.CoreEnd.TheVariants.{Stop}
+use Rattle.lf_model.specs.declared.trace.CoreEnd.TheVariants.{Halt, Stop, Limit}
 use Rattle.lf_model.specs.declared.trace.CoreResult.{CoreResult}
 use Rattle.lf_model.specs.declared.trace.Op.{Op}
 use Rattle.lf_model.specs.declared.trace.Trace.{Trace}
@@ -55,10 +53,18 @@ abbrev pub access_after : Setup → Trace → ℕ → ℕ → Option Access
 access_after setup trace c n = option_and_then (λ q. (effect_at_pc setup c q.state).access) (run_of_core setup trace c n)
 
 -- a fill of the data cache is for a load, and an atomic transfer for an atomic
-abbrev pub serves : TurnKind → OpKind → Bool
-serves Load kinds.Load = true
-serves Atomic kinds.Atomic = true
-serves _ _ = false
+abbrev pub serves : TurnKind → AccessKind → Bool
+serves Fetch kind = false
+serves Load AccessKind.Load = true
+serves Load AccessKind.Store = false
+serves Load AccessKind.Atomic = false
+serves Store kind = false
+serves Atomic AccessKind.Load = false
+serves Atomic AccessKind.Store = false
+serves Atomic AccessKind.Atomic = true
+serves Snoop kind = false
+serves Look kind = false
+serves Fix kind = false
 
 -- the lowest word, of those that the access wants, that the transfer of this turn meets bad
 abbrev pub lowest_bad : Setup → Trace → ℕ → Access → Option ℕ
@@ -106,7 +112,8 @@ pub record IsRegisterError (setup : Setup) (trace : Trace) (c : ℕ) (r : CoreRe
 abbrev pub HasCause : Setup → Trace → ℕ → CoreResult → CoreEnd → Type 0
 HasCause setup trace c r (Stop tt_ place syn) = ((tt_ ≡ 0x20) × IsRegisterError setup trace c r (r.steps - 1) place syn)
     ⊎ HasWordCause setup trace c r.n (r.steps - 1) tt_ place syn
-HasCause setup trace c r _ = ⊤
+HasCause setup trace c r (Halt tt_) = ⊤
+HasCause setup trace c r Limit = ⊤
 
 abbrev pub StopCauseAt : Setup → Trace → ℕ → Type 0
 StopCauseAt setup trace c = IfSome (slice_get trace.cores c) (λ r. HasCause setup trace c r r.end)
@@ -120,7 +127,8 @@ StopCause setup trace = FailsNowhere setup.config.cores (StopCauseAt setup trace
 -- the register cell that an end names
 abbrev pub cell_of_end : CoreEnd → Option ℕ
 cell_of_end (Stop tt_ place syn) = if tt_ == 0x20 then Some place else None
-cell_of_end _ = None
+cell_of_end (Halt tt_) = None
+cell_of_end Limit = None
 
 -- the cell that the stop of a core names in this step, its last one
 abbrev pub cell_stopped : CoreResult → ℕ → Option ℕ

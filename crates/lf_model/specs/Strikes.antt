@@ -5,7 +5,7 @@ use Rattle.std.specs.List.{filter_map, range_with_len, zip}
 use Rattle.lf_model.specs.Flips.{Moment}
 use Rattle.lf_model.specs.Flips.Moment.{Struck}
 use Rattle.lf_model.specs.declared.flip.Flip.{Flip}
-use Rattle.lf_model.specs.declared.flip.Flip.TheVariants.{Mem, Reg}
+use Rattle.lf_model.specs.declared.flip.Flip.TheVariants.{Mem, Reg, Tag, Line}
 
 -- a bit of a unit, struck as this turn or step begins
 pub record Aim : Type 0 where
@@ -16,12 +16,16 @@ pub record Aim : Type 0 where
 -- where a flip strikes the words of memory, by their addresses; a flip of another array does not
 abbrev pub memory_aim : Flip → Option Aim
 memory_aim (Mem turn addr bit) = Some (record { at = turn; unit = addr; bit = bit })
-memory_aim _ = None
+memory_aim (Reg core step cell bit) = None
+memory_aim (Tag core step fetch way set byte bit) = None
+memory_aim (Line core step fetch way set byte bit) = None
 
 -- where it strikes the register cells of a core, by their numbers
 abbrev pub register_aim : ℕ → Flip → Option Aim
 register_aim core (Reg c step cell bit) = if c == core then Some (record { at = step; unit = cell; bit = bit }) else None
-register_aim core _ = None
+register_aim core (Mem turn addr bit) = None
+register_aim core (Tag c step fetch way set byte bit) = None
+register_aim core (Line c step fetch way set byte bit) = None
 
 -- the moment that a flip of this number and aim makes for a unit as a turn or step begins, if it is for that unit then
 abbrev pub strike_of : ℕ → ℕ → ℕ → Option Aim → Option Moment

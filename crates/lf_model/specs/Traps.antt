@@ -3,7 +3,7 @@
 use Rattle.std.specs.Prelude.{ℕ, ◌+◌, ◌*◌, ◌/◌, ◌%◌, ◌^◌, ◌∷◌, [], Bool, true, false, List, Option, Some, None, if◌then◌else◌, slice_set}
 use Rattle.std.specs.Option.{option_or}
 use Rattle.lf_model.specs.State.{State, cell}
-use Rattle.lf_model.specs.Effect.{Effect}
+use Rattle.lf_model.specs.Effect.{Effect, with_reads}
 use Rattle.lf_model.specs.declared.trap.Checks.{Checks}
 
 -- ---- the trap types by their names
@@ -103,9 +103,9 @@ entered tt_ s =
     }
 
 -- an ordinary trap: trap entry where traps are enabled, else error mode, in which the state stays
-abbrev pub trap_effect : ℕ → List ℕ → State → Effect
-trap_effect tt_ registers s = record {
-  reads = registers;
+abbrev pub trap_effect : ℕ → State → Effect
+trap_effect tt_ s = record {
+  reads = [];
   trap = Some tt_;
   access = None;
   barrier = None;
@@ -113,11 +113,11 @@ trap_effect tt_ registers s = record {
   next = λ _. if s.ctl.et then entered tt_ s else record s { halt = Some tt_ };
 }
 
--- the trap, if there is one, in place of the effect
+-- the trap, if there is one, in place of the effect, whose registers are read before
 abbrev pub unless_trap : Option ℕ → State → Effect → Effect
 unless_trap None s e = e
-unless_trap (Some tt_) s e = trap_effect tt_ e.reads s
+unless_trap (Some tt_) s e = with_reads e.reads (trap_effect tt_ s)
 
 -- the trap of a PC that is no text word; no word is fetched there, so that no other trap comes
 abbrev pub fetch_trap : State → Effect
-fetch_trap s = trap_effect instruction_access_exception [] s
+fetch_trap s = trap_effect instruction_access_exception s

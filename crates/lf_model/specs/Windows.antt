@@ -1,6 +1,6 @@
 -- Register windows: SAVE, RESTORE and RETT (SPARC V8, chapter 4, windowed registers and WIM; appendix B, SAVE and
 -- RESTORE, and return from trap instructions). That there are 8 windows is this machine's own.
-use Rattle.std.specs.Prelude.{ℕ, ◌+◌, ◌%◌, ◌==◌, Bool, true, ◌&&◌, List, []}
+use Rattle.std.specs.Prelude.{ℕ, ◌+◌, ◌%◌, ◌==◌, Bool, true, ◌&&◌, []}
 use Rattle.std.specs.Int.{bit_at}
 use Rattle.lf_model.specs.State.{State}
 use Rattle.lf_model.specs.Effect.{Effect, sum_of_operands, changes, sets}
@@ -41,19 +41,19 @@ abbrev pub in_window : ℕ → State → State
 in_window window s = record s { ctl = record s.ctl { cwp = window } }
 
 -- the sum of the operands, which are read in the old window, goes to register rd of the new one
-abbrev pub window_effect : List ℕ → ℕ → ℕ → ℕ → Src → State → Effect
-window_effect registers window rd rs1 src s = sets registers rd (sum_of_operands s rs1 src) (in_window window s)
+abbrev pub window_effect : ℕ → ℕ → ℕ → Src → State → Effect
+window_effect window rd rs1 src s = sets rd (sum_of_operands s rs1 src) (in_window window s)
 
-abbrev pub save_effect : List ℕ → ℕ → ℕ → Src → State → Effect
-save_effect registers rd rs1 src s = window_effect registers (window_after_save s.ctl.cwp) rd rs1 src s
+abbrev pub save_effect : ℕ → ℕ → Src → State → Effect
+save_effect rd rs1 src s = window_effect (window_after_save s.ctl.cwp) rd rs1 src s
 
-abbrev pub restore_effect : List ℕ → ℕ → ℕ → Src → State → Effect
-restore_effect registers rd rs1 src s = window_effect registers (window_after_restore s.ctl.cwp) rd rs1 src s
+abbrev pub restore_effect : ℕ → ℕ → Src → State → Effect
+restore_effect rd rs1 src s = window_effect (window_after_restore s.ctl.cwp) rd rs1 src s
 
 -- back in the window and the mode of the instruction that trapped, with traps enabled
 abbrev pub returned : State → State
 returned s = record s { ctl = record s.ctl { cwp = window_after_restore s.ctl.cwp; s = s.ctl.ps; et = true } }
 
 -- RETT: a delayed transfer to the sum of the operands
-abbrev pub rett_effect : List ℕ → ℕ → Src → State → Effect
-rett_effect registers rs1 src s = changes registers [] (transferred (sum_of_operands s rs1 src) (returned s))
+abbrev pub rett_effect : ℕ → Src → State → Effect
+rett_effect rs1 src s = changes [] (transferred (sum_of_operands s rs1 src) (returned s))

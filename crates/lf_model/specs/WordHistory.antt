@@ -7,7 +7,7 @@ use Rattle.lf_model.specs.Flips.Moment.{Written, Named}
 use Rattle.lf_model.specs.Strikes.{memory_aim, struck_at}
 use Rattle.lf_model.specs.declared.bus.Transfer.{Transfer}
 use Rattle.lf_model.specs.declared.bus.TurnKind.{TurnKind}
-use Rattle.lf_model.specs.declared.bus.TurnKind.TheVariants.{Store, Atomic, Fix}
+use Rattle.lf_model.specs.declared.bus.TurnKind.TheVariants.{Fetch, Load, Store, Atomic, Snoop, Look, Fix}
 use Rattle.lf_model.specs.declared.flip.Flip.{Flip}
 
 -- the history of a word once a turn has begun
@@ -24,7 +24,10 @@ abbrev pub write_by : TurnKind → ℕ → List Moment → Option How
 write_by Store len h = if nat_lt len 4 then (if is_bad_word h then None else Some ByPartStore) else Some Whole
 write_by Atomic len h = if is_bad_word h then None else Some ByAtomic
 write_by Fix len h = if is_fixed_word h then Some ByFix else None
-write_by _ len h = None
+write_by Fetch len h = None
+write_by Load len h = None
+write_by Snoop len h = None
+write_by Look len h = None
 
 abbrev pub with_write : Option How → List Moment → List Moment
 with_write None h = h

@@ -5,13 +5,11 @@ use Rattle.std.proofs.lemmas.Option.{same_Some}
 use Rattle.lf_model.specs.Start.{initial_byte, number_at}
 use Rattle.lf_model.specs.Operation.{entry_reads, touches, byte_got, kind_reads}
 use Rattle.lf_model.specs.State.{State, cell}
-use Rattle.lf_model.specs.Effect.{Access, Effect}
+use Rattle.lf_model.specs.Effect.{AccessKind, Access, operation_kind, Effect, with_reads}
 use Rattle.lf_model.specs.Traps.{trap_effect, handler_window}
 use Rattle.lf_model.specs.Run.{Run, operation, with_access, performed, effect_at_pc}
 use Rattle.lf_model.specs.Step.{Parts as Answers, first_bad, barrier_row, came_to, answer_of, run_after, Does, looked, counted}
 use Rattle.lf_model.specs.declared.bus.Entry.{Entry}
-use Rattle.lf_model.specs.declared.bus.OpKind.{OpKind}
-use Rattle.lf_model.specs.declared.bus.OpKind.TheVariants as ops
 use Rattle.lf_model.specs.declared.bus.Why.{Why}
 use Rattle.lf_model.specs.declared.bus.Why.TheVariants.{Absent}
 use Rattle.lf_model.specs.declared.control.Arch.{Arch}
@@ -57,29 +55,29 @@ ReadsWell bad hand s e = first_bad (parts_with bad hand) s.ctl.cwp e.reads ≡ N
 nothing_comes : (bad : List (Option ℕ)) (hand : Option Hand) (s : State) (e : Effect) → ReadsWell bad hand s e → e.trap ≡ None → e.access ≡ None → came_to (parts_with bad hand) s e ≡ Retired
 nothing_comes bad hand s e well trap access = rw (well, trap, access, no_barrier bad hand e.barrier) refl
 
-store_comes : (bad : List (Option ℕ)) (hand : Option Hand) (s : State) (e : Effect) (a : Access) → ReadsWell bad hand s e → e.trap ≡ None → e.access ≡ Some a → a.kind ≡ ops.Store
+store_comes : (bad : List (Option ℕ)) (hand : Option Hand) (s : State) (e : Effect) (a : Access) → ReadsWell bad hand s e → e.trap ≡ None → e.access ≡ Some a → a.kind ≡ AccessKind.Store
     → came_to (parts_with bad hand) s e ≡ Retired
 store_comes bad hand s e a well trap access kind = rw (well, trap, access, kind, no_barrier bad hand e.barrier) refl
 
-load_hits : (bad : List (Option ℕ)) (h : Hand) (s : State) (e : Effect) (a : Access) → ReadsWell bad (Some h) s e → e.trap ≡ None → e.access ≡ Some a → a.kind ≡ ops.Load
+load_hits : (bad : List (Option ℕ)) (h : Hand) (s : State) (e : Effect) (a : Access) → ReadsWell bad (Some h) s e → e.trap ≡ None → e.access ≡ Some a → a.kind ≡ AccessKind.Load
     → has_bytes h a.addr a.len ≡ true → came_to (parts_with bad (Some h)) s e ≡ Retired
 load_hits bad h s e a well trap access kind has = rw (well, trap, access, kind, has, no_barrier bad (Some h) e.barrier) refl
 
-load_misses : (bad : List (Option ℕ)) (s : State) (e : Effect) (a : Access) → ReadsWell bad None s e → e.trap ≡ None → e.access ≡ Some a → a.kind ≡ ops.Load
+load_misses : (bad : List (Option ℕ)) (s : State) (e : Effect) (a : Access) → ReadsWell bad None s e → e.trap ≡ None → e.access ≡ Some a → a.kind ≡ AccessKind.Load
     → came_to (parts_with bad None) s e ≡ Need (Load a.addr a.len Absent)
 load_misses bad s e a well trap access kind = rw (well, trap, access, kind) refl
 
-atomic_needs : (bad : List (Option ℕ)) (hand : Option Hand) (s : State) (e : Effect) (a : Access) → ReadsWell bad hand s e → e.trap ≡ None → e.access ≡ Some a → a.kind ≡ ops.Atomic
+atomic_needs : (bad : List (Option ℕ)) (hand : Option Hand) (s : State) (e : Effect) (a : Access) → ReadsWell bad hand s e → e.trap ≡ None → e.access ≡ Some a → a.kind ≡ AccessKind.Atomic
     → came_to (parts_with bad hand) s e ≡ Need (Atomic a.addr a.len a.put a.rd)
 atomic_needs bad hand s e a well trap access kind = rw (well, trap, access, kind) refl
 
 -- a trap enters the handler, or halts the core in the state as it was
 trap_enters : (bad : List (Option ℕ)) (hand : Option Hand) (s : State) (tt_ : ℕ) (registers : List ℕ) → first_bad (parts_with bad hand) s.ctl.cwp registers ≡ None → s.ctl.et ≡ true
-    → came_to (parts_with bad hand) s (trap_effect tt_ registers s) ≡ Retired
+    → came_to (parts_with bad hand) s (with_reads registers (trap_effect tt_ s)) ≡ Retired
 trap_enters bad hand s tt_ registers well enabled = rw (well, enabled) refl
 
 trap_halts : (bad : List (Option ℕ)) (hand : Option Hand) (s : State) (tt_ : ℕ) (registers : List ℕ) → first_bad (parts_with bad hand) s.ctl.cwp registers ≡ None → s.ctl.et ≡ false
-    → came_to (parts_with bad hand) s (trap_effect tt_ registers s) ≡ Halt tt_
+    → came_to (parts_with bad hand) s (with_reads registers (trap_effect tt_ s)) ≡ Halt tt_
 trap_halts bad hand s tt_ registers well disabled = rw (well, disabled) refl
 
 -- a bad register stops the core
@@ -92,7 +90,7 @@ record WaitsFor (setup : Setup) (r : Run) (h : Hand) (e : Effect) : Type 0 where
   pub a : Access
   pub trap : e.trap ≡ None
   pub access : e.access ≡ Some a
-  pub kind : a.kind ≡ ops.Load
+  pub kind : a.kind ≡ AccessKind.Load
   pub has : has_bytes h a.addr a.len ≡ true
   pub line : h.line ≡ line_of a.addr
   pub bytes : (i : ℕ) → i < a.len → byte_in h (a.addr + i) ≡ byte_after setup r.ops (a.addr + i)
@@ -155,7 +153,7 @@ record Before (setup : Setup) (bad : List (Option ℕ)) (hand : Option Hand) (n 
 
 answer_is : (parts : Answers) (access : Option Access) → IsAnswer access (answer_of parts access)
 answer_is parts None = refl
-answer_is parts (Some a) = by_kind (kind_reads a.kind) (looked (parts.look a.addr a.len))
+answer_is parts (Some a) = by_kind (kind_reads (operation_kind a.kind)) (looked (parts.look a.addr a.len))
   where
     by_kind : (reads : Bool) (got : ℕ) → reads ≡ false → cond reads got 0 ≡ 0
     by_kind true got other = absurd cc
@@ -224,7 +222,7 @@ came_trap setup bad hand n old new did e false disabled b t =
     })
 
 came_store : (setup : Setup) (bad : List (Option ℕ)) (hand : Option Hand) (n : ℕ) (old new : Run) (did : Did) (e : Effect) (a : Access) → Before setup bad hand n old new did e → e.trap ≡ None → e.access ≡ Some a
-    → a.kind ≡ ops.Store → FitsRam setup.config.ram a.addr a.len → Came setup bad hand old did (n + counted did) new
+    → a.kind ≡ AccessKind.Store → FitsRam setup.config.ram a.addr a.len → Came setup bad hand old did (n + counted did) new
 came_store setup bad hand n old new did e a b trap access kind fits_ram =
     let is : did ≡ Retired = b.answer ∙ store_comes bad hand old.state e a b.well trap access kind in
     let r = retires setup bad hand n old new did e b is in
@@ -235,18 +233,18 @@ came_store setup bad hand n old new did e a b trap access kind fits_ram =
     let same : w.a ≡ a = same_Some w.a a (sym w.access ∙ access) in
     load_no_store w.a.kind w.kind (ap (λ (x : Access). x.kind) same ∙ kind)) in
     as_retired setup bad hand old new did n is r.run
-    (AStore (operation 0 (length old.ops) got a) (record { empty = empty; kind = kind; fits = fits_ram; pushed = pushed }))
+    (AStore (operation 0 (length old.ops) got a) (record { empty = empty; kind = ap operation_kind kind; fits = fits_ram; pushed = pushed }))
     (keeps_pushed setup old.ops new.ops got a pushed (λ reader. absurd (store_no_reader a.kind kind reader)))
   where
-    load_no_store : (kind : OpKind) → kind ≡ ops.Load → kind ≡ ops.Store → ⊥
+    load_no_store : (kind : AccessKind) → kind ≡ AccessKind.Load → kind ≡ AccessKind.Store → ⊥
     load_no_store kind load store = cc
 
-    store_no_reader : (kind : OpKind) → kind ≡ ops.Store → kind_reads kind ≡ true → ⊥
-    store_no_reader kind store reader = let no : kind_reads kind ≡ false = ap kind_reads store in cc
+    store_no_reader : (kind : AccessKind) → kind ≡ AccessKind.Store → kind_reads (operation_kind kind) ≡ true → ⊥
+    store_no_reader kind store reader = let no : kind_reads (operation_kind kind) ≡ false = ap (λ (k : AccessKind). kind_reads (operation_kind k)) store in cc
 
 -- a load from the hand reads what memory holds
 came_hit : (setup : Setup) (bad : List (Option ℕ)) (h : Hand) (n : ℕ) (old new : Run) (did : Did) (e : Effect) (a : Access) → Before setup bad (Some h) n old new did e → e.trap ≡ None → e.access ≡ Some a
-    → a.kind ≡ ops.Load → Came setup bad (Some h) old did (n + counted did) new
+    → a.kind ≡ AccessKind.Load → Came setup bad (Some h) old did (n + counted did) new
 came_hit setup bad h n old new did e a b trap access kind =
     let w = waits setup old h e b.fits b.its in
     let same : w.a ≡ a = same_Some w.a a (sym w.access ∙ access) in
@@ -259,12 +257,12 @@ came_hit setup bad h n old new did e a b trap access kind =
     let bytes : (i : ℕ) → i < a.len → byte_in h (a.addr + i) ≡ byte_after setup old.ops (a.addr + i) =
     subst (λ (x : Access). (i : ℕ) → i < x.len → byte_in h (x.addr + i) ≡ byte_after setup old.ops (x.addr + i)) same w.bytes in
     as_retired setup bad (Some h) old new did n is r.run
-    (ALoad (operation 0 (length old.ops) got a) (record { h = h; held = refl; line = w.line ∙ ap (λ (x : Access). line_of x.addr) same; kind = kind; pushed = pushed }))
+    (ALoad (operation 0 (length old.ops) got a) (record { h = h; held = refl; line = w.line ∙ ap (λ (x : Access). line_of x.addr) same; kind = ap operation_kind kind; pushed = pushed }))
     (keeps_pushed setup old.ops new.ops got a pushed (λ reader.
     load_reads (initial_byte setup.image) old.ops (operation 0 (length old.ops) got a) (byte_in h) value (λ i. omega arith) bytes))
 
 came_miss : (setup : Setup) (bad : List (Option ℕ)) (n : ℕ) (old new : Run) (did : Did) (e : Effect) (a : Access) → Before setup bad None n old new did e → e.trap ≡ None → e.access ≡ Some a
-    → a.kind ≡ ops.Load → FitsRam setup.config.ram a.addr a.len → Came setup bad None old did (n + counted did) new
+    → a.kind ≡ AccessKind.Load → FitsRam setup.config.ram a.addr a.len → Came setup bad None old did (n + counted did) new
 came_miss setup bad n old new did e a b trap access kind fits_ram =
     let is : did ≡ Need (Load a.addr a.len Absent) = b.answer ∙ load_misses bad old.state e a b.well trap access kind in
     let same : new ≡ old = subst (λ (d : Did). new ≡ run_after 0 (parts_with bad None) d e old) is b.leaves in
@@ -279,7 +277,7 @@ came_miss setup bad n old new did e a b trap access kind fits_ram =
     })
 
 came_load : (setup : Setup) (bad : List (Option ℕ)) (hand : Option Hand) (n : ℕ) (old new : Run) (did : Did) (e : Effect) (a : Access) → Before setup bad hand n old new did e → e.trap ≡ None → e.access ≡ Some a
-    → a.kind ≡ ops.Load → FitsRam setup.config.ram a.addr a.len → Came setup bad hand old did (n + counted did) new
+    → a.kind ≡ AccessKind.Load → FitsRam setup.config.ram a.addr a.len → Came setup bad hand old did (n + counted did) new
 came_load setup bad None n old new did e a b trap access kind fits_ram = came_miss setup bad n old new did e a b trap access kind fits_ram
 came_load setup bad (Some h) n old new did e a b trap access kind fits_ram = came_hit setup bad h n old new did e a b trap access kind
 
@@ -287,7 +285,7 @@ came_load setup bad (Some h) n old new did e a b trap access kind fits_ram = cam
 came_atomic : (setup : Setup) (bad : List (Option ℕ)) (hand : Option Hand) (n : ℕ) (old new : Run) (did : Did) (e : Effect) (a : Access) → Before setup bad hand n old new did e → e.trap ≡ None → e.access ≡ Some a
     → a ≡ atomic_access a.addr a.len a.put a.rd → IsTrue (is_atomic_length a.len) → FitsRam setup.config.ram a.addr a.len → Came setup bad hand old did (n + counted did) new
 came_atomic setup bad hand n old new did e a b trap access same size fits_ram =
-    let kind : a.kind ≡ ops.Atomic = ap (λ (x : Access). x.kind) same in
+    let kind : a.kind ≡ AccessKind.Atomic = ap (λ (x : Access). x.kind) same in
     let is : did ≡ Need (Atomic a.addr a.len a.put a.rd) = b.answer ∙ atomic_needs bad hand old.state e a b.well trap access kind in
     let unchanged : new ≡ old = subst (λ (d : Did). new ≡ run_after 0 (parts_with bad hand) d e old) is b.leaves in
     let empty : hand ≡ None = no_hand setup old hand b.fits (λ h fits.
@@ -303,7 +301,7 @@ came_atomic setup bad hand n old new did e a b trap access same size fits_ram =
       keeps = keeps_same setup old.ops new.ops (ap (λ (r : Run). r.ops) unchanged);
     })
   where
-    load_no_atomic : (kind : OpKind) → kind ≡ ops.Load → kind ≡ ops.Atomic → ⊥
+    load_no_atomic : (kind : AccessKind) → kind ≡ AccessKind.Load → kind ≡ AccessKind.Atomic → ⊥
     load_no_atomic kind load atomic = cc
 
 came_plain : (setup : Setup) (bad : List (Option ℕ)) (hand : Option Hand) (n : ℕ) (old new : Run) (did : Did) (e : Effect) → Before setup bad hand n old new did e → e.trap ≡ None → AccessFits setup.config.ram e.access

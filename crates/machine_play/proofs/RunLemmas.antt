@@ -8,7 +8,7 @@ use Rattle.std.proofs.lemmas.List.Sums.{sum_by-append, sum_by-cons, length-filte
 use Rattle.std.proofs.lemmas.Option.{same_Some, option_and_then_some}
 use Rattle.std.specs.Prelude.{option_and_then}
 use Rattle.lf_model.specs.Operation.{kind_reads, entry_reads}
-use Rattle.lf_model.specs.Effect.{Access, Effect}
+use Rattle.lf_model.specs.Effect.{Access, operation_kind, Effect}
 use Rattle.lf_model.specs.Run.{Run, operation, with_access, performed, reads_of, answer_to, answered, effect_at_pc, onward, run}
 use Rattle.lf_model.specs.declared.bus.Entry.{Entry}
 use Rattle.lf_model.specs.declared.setup.Setup.{Setup}
@@ -29,7 +29,7 @@ kept_by false a b n h = refl
 answer_kept : (core got : ℕ) (access : Option Access) (es : List Entry) (a b : List ℕ) → reads_of (with_access core got access es) ≤ length a
     → answer_to (a ++ b) es access ≡ answer_to a es access
 answer_kept core got None es a b h = refl
-answer_kept core got (Some x) es a b h = kept_by (kind_reads x.kind) a b (reads_of es) (omega (arith, reads_push es (operation core (length es) got x)))
+answer_kept core got (Some x) es a b h = kept_by (kind_reads (operation_kind x.kind)) a b (reads_of es) (omega (arith, reads_push es (operation core (length es) got x)))
 
 reads_less : (core got : ℕ) (access : Option Access) (es : List Entry) → reads_of es ≤ reads_of (with_access core got access es)
 reads_less core got None es = omega arith
@@ -110,7 +110,7 @@ answer_next false es got none = sym (none refl)
 
 abbrev pub IsAnswer : Option Access → ℕ → Type 0
 IsAnswer None got = got ≡ 0
-IsAnswer (Some x) got = kind_reads x.kind ≡ false → got ≡ 0
+IsAnswer (Some x) got = kind_reads (operation_kind x.kind) ≡ false → got ≡ 0
 
 pub run_further : (setup : Setup) (core n : ℕ) (r : Run) (e : Effect) (got : ℕ) → run setup core (entry_answers r.ops) n ≡ Some r → is_some r.state.halt ≡ false
     → effect_at_pc setup core r.state ≡ e → IsAnswer e.access got
@@ -126,7 +126,7 @@ run_further setup core n r e got before goes its answer = by_access e.access ref
         (run_suc setup core (entry_answers r.ops) n r (Some (performed core got e r)) before
         (onward_from setup core (entry_answers r.ops) r e goes its ∙ ap (λ (g : ℕ). Some (performed core g e r)) read))
     by_access (Some x) some other =
-        let reading : Bool = kind_reads x.kind in
+        let reading : Bool = kind_reads (operation_kind x.kind) in
         let more : List ℕ = more_of reading got in
         let answers : entry_answers (performed core got e r).ops ≡ entry_answers r.ops ++ more =
         rw some (answers_push reading r.ops (operation core (length r.ops) got x) refl) in

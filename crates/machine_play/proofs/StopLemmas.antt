@@ -7,7 +7,7 @@ use Rattle.std.proofs.Math.Seq.{take-append_seam}
 use Rattle.std.proofs.lemmas.List.{append-nil, map-append, take_all}
 use Rattle.std.proofs.lemmas.Option.{get_or_from_slice_get}
 use Rattle.std.proofs.lemmas.Bool.{and_parts}
-use Rattle.lf_model.specs.Effect.{Access}
+use Rattle.lf_model.specs.Effect.{AccessKind, Access}
 use Rattle.lf_model.specs.Flips.{is_bad_word, syndrome}
 use Rattle.lf_model.specs.WordHistory.{begun, history}
 use Rattle.lf_model.specs.Operation.{made}
@@ -165,7 +165,7 @@ ended_load setup step addr len place turn syn m bus' line named t bad turn_is sy
             access = asked.access;
             last = last;
             is = record { before = m.bus.transfers; transfers_are = transfers; place_is = turn_is; master = refl; made_in = omega arith };
-            serve = ap (λ (k : OpKind). serves Load k) asked.kind;
+            serve = ap (λ (k : AccessKind). serves Load k) asked.kind;
             word = line_of addr + 4 * place;
             lowest = lowest;
             syn_is = syn_is ∙ get_or_from_slice_get line.syn place _ 0 (t.shows place within).syn ∙ ap syndrome (met_word place);

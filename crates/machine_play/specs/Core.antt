@@ -1,7 +1,7 @@
 -- What one instruction makes of a core without caches, by the line in its hand.
 use Rattle.std.specs.Prelude.{ℕ, ◌≡◌, ◌%◌, ◌++◌, ◌∷◌, [], true, List, Option, Some, None, vec_len, IsTrue}
 use Rattle.lf_model.specs.Start.{initial_byte, is_in_ram}
-use Rattle.lf_model.specs.Effect.{Access, Effect}
+use Rattle.lf_model.specs.Effect.{AccessKind, Access, Effect}
 use Rattle.lf_model.specs.Run.{Run, site_of, effect_at_pc}
 use Rattle.lf_model.specs.Step.{IsSound, first_bad, came_to}
 use Rattle.lf_model.specs.declared.bus.Entry.{Entry}
@@ -78,7 +78,7 @@ pub record IsLoadAt (setup : Setup) (r : Run) (addr len : ℕ) : Type 0 where
   pub its : effect_at_pc setup 0 r.state ≡ e
   pub trap : e.trap ≡ None
   pub access : e.access ≡ Some a
-  pub kind : a.kind ≡ ops.Load
+  pub kind : a.kind ≡ AccessKind.Load
   pub fits : FitsRam setup.config.ram a.addr a.len
   pub addr_is : addr ≡ a.addr
   pub len_is : len ≡ a.len

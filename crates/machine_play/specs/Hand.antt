@@ -2,11 +2,10 @@
 use Rattle.std.specs.Prelude.{ℕ, ◌≡◌, ◌<◌, ◌+◌, ◌-◌, ◌/◌, ◌%◌, Bool, true, false, ◌&&◌, nat_le, slice_index, List, Option, Some, None, if◌then◌else◌}
 use Rattle.lf_model.specs.Start.{number_at}
 use Rattle.lf_model.specs.Operation.{byte_of}
-use Rattle.lf_model.specs.Effect.{Access, Effect}
+use Rattle.lf_model.specs.Effect.{AccessKind, Access, Effect}
 use Rattle.lf_model.specs.Run.{Run, effect_at_pc}
 use Rattle.lf_model.specs.Step.{Parts}
 use Rattle.lf_model.specs.declared.setup.Setup.{Setup}
-use Rattle.lf_model.specs.declared.bus.OpKind.TheVariants as ops
 use Rattle.lf_model.specs.declared.bus.Why.TheVariants.{Absent}
 use Rattle.lf_model.specs.declared.step.Look.{Look}
 use Rattle.lf_model.specs.declared.step.Look.TheVariants.{Hit, Miss}
@@ -38,7 +37,7 @@ pub record IsHandOf (setup : Setup) (r : Run) (h : Hand) : Type 0 where
   pub its : effect_at_pc setup 0 r.state ≡ e
   pub trap : e.trap ≡ None
   pub access : e.access ≡ Some a
-  pub kind : a.kind ≡ ops.Load
+  pub kind : a.kind ≡ AccessKind.Load
   pub has : has_bytes h a.addr a.len ≡ true
   pub line : h.line ≡ line_of a.addr
   pub bytes : (i : ℕ) → i < a.len → byte_in h (a.addr + i) ≡ byte_after setup r.ops (a.addr + i)

@@ -3,8 +3,8 @@ use Rattle.std.proofs.Common.{◌≡◌, ℕ, ◌∷◌, [], List, Bool, cond, t
 use Rattle.lf_model.specs.CellAccess.{after_cells}
 use Rattle.lf_model.specs.Start.{output_word}
 use Rattle.lf_model.specs.State.{State, advanced, with_register}
+use Rattle.lf_model.specs.Effect.{Site, AccessKind, Access, Effect, with_reads, cell_written, sum_of_operands}
 use Rattle.lf_model.specs.Instructions.{registers_read}
-use Rattle.lf_model.specs.Effect.{Site, Access, Effect, cell_written, sum_of_operands}
 use Rattle.lf_model.specs.Traps.{unless_trap}
 use Rattle.lf_model.specs.Memory.{output_effect, store_effect, mem_effect}
 use Rattle.lf_model.specs.Alternate.{is_plain_space, control_effect}
@@ -13,8 +13,6 @@ use Rattle.lf_model.specs.Effects.{completed, effect}
 use Rattle.lf_model.specs.Run.{Run, with_access}
 use Rattle.lf_model.specs.Step.{Seen, Parts, state_of, first_bad, came_to, stop_row, trap_row, miss_row, kind_row, access_row, barrier_row, first_row}
 use Rattle.lf_model.specs.declared.bus.Entry.{Entry}
-use Rattle.lf_model.specs.declared.bus.OpKind.{OpKind}
-use Rattle.lf_model.specs.declared.bus.OpKind.TheVariants as kinds
 use Rattle.lf_model.specs.declared.bus.Why.{Why}
 use Rattle.lf_model.specs.declared.bus.Why.TheVariants as whys
 use Rattle.lf_model.specs.declared.control.Arch.{Arch}
@@ -33,8 +31,8 @@ use Rattle.v8_exec.specs.Accesses.{atomic_access, IsAccessing, Finishes, WritesA
 
 -- ---- the operation of an effect
 
-abbrev kind_in : Option Access → OpKind
-kind_in None = kinds.Load
+abbrev kind_in : Option Access → AccessKind
+kind_in None = AccessKind.Load
 kind_in (Some a) = a.kind
 
 abbrev rd_in : Option Access → ℕ
@@ -47,24 +45,24 @@ record EndsAtomic (s : State) (e : Effect) : Type 0 where
   writes : (addr len new rd : ℕ) → e.access ≡ Some (atomic_access addr len new rd) → e.writes ≡ cell_written s rd
 
 -- the operation is no atomic
-ends_other : (s : State) (e : Effect) → ((a : Access) → a.kind ≡ kinds.Atomic → e.access ≡ Some a → ⊥) → EndsAtomic s e
+ends_other : (s : State) (e : Effect) → ((a : Access) → a.kind ≡ AccessKind.Atomic → e.access ≡ Some a → ⊥) → EndsAtomic s e
 ends_other s e other = record {
   ends = λ addr len new rd got is. absurd (other (atomic_access addr len new rd) refl is);
   writes = λ addr len new rd is. absurd (other (atomic_access addr len new rd) refl is);
 }
 
 ends_without : (s : State) (e : Effect) → e.access ≡ None → EndsAtomic s e
-ends_without s e none = ends_other s e (λ a atomic is. let k : kinds.Load ≡ a.kind = ap kind_in (sym none ∙ is) in absurd (cc))
+ends_without s e none = ends_other s e (λ a atomic is. let k : AccessKind.Load ≡ a.kind = ap kind_in (sym none ∙ is) in absurd (cc))
 
 ends_trap : (s : State) (trap : Option ℕ) (e : Effect) → EndsAtomic s e → EndsAtomic s (unless_trap trap s e)
 ends_trap s None e ends = ends
 ends_trap s (Some tt_) e ends = ends_without s (unless_trap (Some tt_) s e) refl
 
-ends_load : (s : State) (e : Effect) → kind_in e.access ≡ kinds.Load → EndsAtomic s e
-ends_load s e load = ends_other s e (λ a atomic is. let k : kinds.Load ≡ a.kind = sym load ∙ ap kind_in is in absurd (cc))
+ends_load : (s : State) (e : Effect) → kind_in e.access ≡ AccessKind.Load → EndsAtomic s e
+ends_load s e load = ends_other s e (λ a atomic is. let k : AccessKind.Load ≡ a.kind = sym load ∙ ap kind_in is in absurd (cc))
 
-ends_store : (s : State) (e : Effect) → kind_in e.access ≡ kinds.Store → EndsAtomic s e
-ends_store s e store = ends_other s e (λ a atomic is. let k : kinds.Store ≡ a.kind = sym store ∙ ap kind_in is in absurd (cc))
+ends_store : (s : State) (e : Effect) → kind_in e.access ≡ AccessKind.Store → EndsAtomic s e
+ends_store s e store = ends_other s e (λ a atomic is. let k : AccessKind.Store ≡ a.kind = sym store ∙ ap kind_in is in absurd (cc))
 
 -- the operation has this register
 ends_with : (s : State) (e : Effect) (rd : ℕ) → rd_in e.access ≡ rd → ((got : ℕ) → e.next got ≡ advanced (with_register rd got s)) → e.writes ≡ cell_written s rd → EndsAtomic s e
@@ -73,97 +71,99 @@ ends_with s e rd register next writes = record {
   writes = λ addr len new rd' is. writes ∙ ap (λ (n : ℕ). cell_written s n) (sym register ∙ ap rd_in is);
 }
 
-ends_output : (s : State) (registers : List ℕ) (addr rd : ℕ) (b : Bool) → EndsAtomic s (cond b (output_effect registers rd s) (store_effect registers St addr rd s))
-ends_output s registers addr rd true = ends_without s _ refl
-ends_output s registers addr rd false = ends_store s _ refl
+ends_output : (s : State) (addr rd : ℕ) (b : Bool) → EndsAtomic s (cond b (output_effect rd s) (store_effect St addr rd s))
+ends_output s addr rd true = ends_without s _ refl
+ends_output s addr rd false = ends_store s _ refl
 
-ends_mem : (s : State) (registers : List ℕ) (name : MemName) (addr rd : ℕ) → EndsAtomic s (mem_effect registers name addr rd s)
-ends_mem s registers Ldstub addr rd = ends_with s _ rd refl (λ got. refl) refl
-ends_mem s registers Swap addr rd = ends_with s _ rd refl (λ got. refl) refl
-ends_mem s registers St addr rd = ends_output s registers addr rd (addr == output_word)
-ends_mem s registers Stb addr rd = ends_store s _ refl
-ends_mem s registers Sth addr rd = ends_store s _ refl
-ends_mem s registers Std addr rd = ends_store s _ refl
-ends_mem s registers Ldd addr rd = ends_load s _ refl
-ends_mem s registers Ld addr rd = ends_load s _ refl
-ends_mem s registers Ldub addr rd = ends_load s _ refl
-ends_mem s registers Lduh addr rd = ends_load s _ refl
-ends_mem s registers Ldsb addr rd = ends_load s _ refl
-ends_mem s registers Ldsh addr rd = ends_load s _ refl
+ends_mem : (s : State) (name : MemName) (addr rd : ℕ) → EndsAtomic s (mem_effect name addr rd s)
+ends_mem s Ldstub addr rd = ends_with s _ rd refl (λ got. refl) refl
+ends_mem s Swap addr rd = ends_with s _ rd refl (λ got. refl) refl
+ends_mem s St addr rd = ends_output s addr rd (addr == output_word)
+ends_mem s Stb addr rd = ends_store s _ refl
+ends_mem s Sth addr rd = ends_store s _ refl
+ends_mem s Std addr rd = ends_store s _ refl
+ends_mem s Ldd addr rd = ends_load s _ refl
+ends_mem s Ld addr rd = ends_load s _ refl
+ends_mem s Ldub addr rd = ends_load s _ refl
+ends_mem s Lduh addr rd = ends_load s _ refl
+ends_mem s Ldsb addr rd = ends_load s _ refl
+ends_mem s Ldsh addr rd = ends_load s _ refl
 
-control_effect-access : (registers : List ℕ) (name : MemName) (rd : ℕ) (s : State) → (control_effect registers name rd s).access ≡ None
-control_effect-access registers Ld rd s = refl
-control_effect-access registers St rd s = refl
-control_effect-access registers Ldd rd s = refl
-control_effect-access registers Ldub rd s = refl
-control_effect-access registers Lduh rd s = refl
-control_effect-access registers Ldsb rd s = refl
-control_effect-access registers Ldsh rd s = refl
-control_effect-access registers Stb rd s = refl
-control_effect-access registers Sth rd s = refl
-control_effect-access registers Std rd s = refl
-control_effect-access registers Ldstub rd s = refl
-control_effect-access registers Swap rd s = refl
+control_effect-access : (name : MemName) (rd : ℕ) (s : State) → (control_effect name rd s).access ≡ None
+control_effect-access Ld rd s = refl
+control_effect-access St rd s = refl
+control_effect-access Ldd rd s = refl
+control_effect-access Ldub rd s = refl
+control_effect-access Lduh rd s = refl
+control_effect-access Ldsb rd s = refl
+control_effect-access Ldsh rd s = refl
+control_effect-access Stb rd s = refl
+control_effect-access Sth rd s = refl
+control_effect-access Std rd s = refl
+control_effect-access Ldstub rd s = refl
+control_effect-access Swap rd s = refl
 
-ends_space : (s : State) (registers : List ℕ) (name : MemName) (addr rd : ℕ) (b : Bool)
-    → EndsAtomic s (cond b (mem_effect registers name addr rd s) (control_effect registers name rd s))
-ends_space s registers name addr rd true = ends_mem s registers name addr rd
-ends_space s registers name addr rd false = ends_without s _ (control_effect-access registers name rd s)
+ends_space : (s : State) (name : MemName) (addr rd : ℕ) (b : Bool)
+    → EndsAtomic s (cond b (mem_effect name addr rd s) (control_effect name rd s))
+ends_space s name addr rd true = ends_mem s name addr rd
+ends_space s name addr rd false = ends_without s _ (control_effect-access name rd s)
 
 -- an instruction that is no load, store or atomic makes no operation
-pub completed-access : (registers : List ℕ) (site : Site) (s : State) (i : Instr) → (IsAccessing i → ⊥) → (completed registers site s i).access ≡ None
-completed-access registers site s (Call disp30) other = refl
-completed-access registers site s (Sethi rd imm22) other = refl
-completed-access registers site s (Bicc c a disp22) other = refl
-completed-access registers site s (Calc name rd rs1 src) other = refl
-completed-access registers site s (Jmpl rd rs1 src) other = refl
-completed-access registers site s (Rett rs1 src) other = refl
-completed-access registers site s (Save rd rs1 src) other = refl
-completed-access registers site s (Restore rd rs1 src) other = refl
-completed-access registers site s (ReadState name rd) other = refl
-completed-access registers site s (ReadAsr rd rs1) other = refl
-completed-access registers site s (WriteState name rs1 src) other = refl
-completed-access registers site s (WriteAsr rd rs1 src) other = refl
-completed-access registers site s (Ticc c rs1 src) other = refl
-completed-access registers site s (Flush rs1 src) other = refl
-completed-access registers site s Stbar other = refl
-completed-access registers site s Illegal other = refl
-completed-access registers site s AltIllegal other = refl
-completed-access registers site s FpOff other = refl
-completed-access registers site s FpQueue other = refl
-completed-access registers site s CpOff other = refl
-completed-access registers site s CpQueue other = refl
-completed-access registers site s (Mem name rd rs1 src) other = absurd (other tt)
-completed-access registers site s (Alternate name rd rs1 rs2 asi) other = absurd (other tt)
+pub completed-access : (site : Site) (s : State) (i : Instr) → (IsAccessing i → ⊥) → (completed site s i).access ≡ None
+completed-access site s (Call disp30) other = refl
+completed-access site s (Sethi rd imm22) other = refl
+completed-access site s (Bicc c a disp22) other = refl
+completed-access site s (Calc name rd rs1 src) other = refl
+completed-access site s (Jmpl rd rs1 src) other = refl
+completed-access site s (Rett rs1 src) other = refl
+completed-access site s (Save rd rs1 src) other = refl
+completed-access site s (Restore rd rs1 src) other = refl
+completed-access site s (ReadState name rd) other = refl
+completed-access site s (ReadAsr rd rs1) other = refl
+completed-access site s (WriteState name rs1 src) other = refl
+completed-access site s (WriteAsr rd rs1 src) other = refl
+completed-access site s (Ticc c rs1 src) other = refl
+completed-access site s (Flush rs1 src) other = refl
+completed-access site s Stbar other = refl
+completed-access site s Illegal other = refl
+completed-access site s AltIllegal other = refl
+completed-access site s FpOff other = refl
+completed-access site s FpQueue other = refl
+completed-access site s CpOff other = refl
+completed-access site s CpQueue other = refl
+completed-access site s (Mem name rd rs1 src) other = absurd (other tt)
+completed-access site s (Alternate name rd rs1 rs2 asi) other = absurd (other tt)
 
-ends_completed : (registers : List ℕ) (site : Site) (s : State) (i : Instr) → EndsAtomic s (completed registers site s i)
-ends_completed registers site s (Mem name rd rs1 src) = ends_mem s registers name (sum_of_operands s rs1 src) rd
-ends_completed registers site s (Alternate name rd rs1 rs2 asi) = ends_space s registers name (sum_of_operands s rs1 (Reg rs2)) rd (is_plain_space asi)
-ends_completed registers site s (Call disp30) = ends_without s _ refl
-ends_completed registers site s (Sethi rd imm22) = ends_without s _ refl
-ends_completed registers site s (Bicc c a disp22) = ends_without s _ refl
-ends_completed registers site s (Calc name rd rs1 src) = ends_without s _ refl
-ends_completed registers site s (Jmpl rd rs1 src) = ends_without s _ refl
-ends_completed registers site s (Rett rs1 src) = ends_without s _ refl
-ends_completed registers site s (Save rd rs1 src) = ends_without s _ refl
-ends_completed registers site s (Restore rd rs1 src) = ends_without s _ refl
-ends_completed registers site s (ReadState name rd) = ends_without s _ refl
-ends_completed registers site s (ReadAsr rd rs1) = ends_without s _ refl
-ends_completed registers site s (WriteState name rs1 src) = ends_without s _ refl
-ends_completed registers site s (WriteAsr rd rs1 src) = ends_without s _ refl
-ends_completed registers site s (Ticc c rs1 src) = ends_without s _ refl
-ends_completed registers site s (Flush rs1 src) = ends_without s _ refl
-ends_completed registers site s Stbar = ends_without s _ refl
-ends_completed registers site s Illegal = ends_without s _ refl
-ends_completed registers site s AltIllegal = ends_without s _ refl
-ends_completed registers site s FpOff = ends_without s _ refl
-ends_completed registers site s FpQueue = ends_without s _ refl
-ends_completed registers site s CpOff = ends_without s _ refl
-ends_completed registers site s CpQueue = ends_without s _ refl
+ends_completed : (site : Site) (s : State) (i : Instr) → EndsAtomic s (completed site s i)
+ends_completed site s (Mem name rd rs1 src) = ends_mem s name (sum_of_operands s rs1 src) rd
+ends_completed site s (Alternate name rd rs1 rs2 asi) = ends_space s name (sum_of_operands s rs1 (Reg rs2)) rd (is_plain_space asi)
+ends_completed site s (Call disp30) = ends_without s _ refl
+ends_completed site s (Sethi rd imm22) = ends_without s _ refl
+ends_completed site s (Bicc c a disp22) = ends_without s _ refl
+ends_completed site s (Calc name rd rs1 src) = ends_without s _ refl
+ends_completed site s (Jmpl rd rs1 src) = ends_without s _ refl
+ends_completed site s (Rett rs1 src) = ends_without s _ refl
+ends_completed site s (Save rd rs1 src) = ends_without s _ refl
+ends_completed site s (Restore rd rs1 src) = ends_without s _ refl
+ends_completed site s (ReadState name rd) = ends_without s _ refl
+ends_completed site s (ReadAsr rd rs1) = ends_without s _ refl
+ends_completed site s (WriteState name rs1 src) = ends_without s _ refl
+ends_completed site s (WriteAsr rd rs1 src) = ends_without s _ refl
+ends_completed site s (Ticc c rs1 src) = ends_without s _ refl
+ends_completed site s (Flush rs1 src) = ends_without s _ refl
+ends_completed site s Stbar = ends_without s _ refl
+ends_completed site s Illegal = ends_without s _ refl
+ends_completed site s AltIllegal = ends_without s _ refl
+ends_completed site s FpOff = ends_without s _ refl
+ends_completed site s FpQueue = ends_without s _ refl
+ends_completed site s CpOff = ends_without s _ refl
+ends_completed site s CpQueue = ends_without s _ refl
 
 ends_effect : (site : Site) (s : State) (i : Instr) → EndsAtomic s (effect site s i)
 unfolding effect
-ends_effect site s i = ends_trap s (ordinary_trap site s i) (completed (registers_read i) site s i) (ends_completed (registers_read i) site s i)
+ends_effect site s i =
+    let here = ends_completed site s i in
+    ends_trap s (ordinary_trap site s i) (with_reads (registers_read i) (completed site s i)) (record { ends = here.ends; writes = here.writes })
 
 -- ---- an instruction that needs the turn of an atomic
 
@@ -210,8 +210,8 @@ look-atomic : (parts : Parts) (a x : Access) (look : Look) → atomic_in (miss_r
 look-atomic parts a x (Hit value way) is = absurd (cc)
 look-atomic parts a x (Miss why) is = let none = drains-atomic parts.waiting whys.Miss (Need (Load a.addr a.len why)) refl in absurd (cc)
 
-of_kind : (a : Access) → a.kind ≡ kinds.Atomic → a ≡ atomic_access a.addr a.len a.put a.rd
-of_kind a k = ap (λ (n : OpKind). record a { kind = n }) k
+of_kind : (a : Access) → a.kind ≡ AccessKind.Atomic → a ≡ atomic_access a.addr a.len a.put a.rd
+of_kind a k = ap (λ (n : AccessKind). record a { kind = n }) k
 
 some_same : (x y : Access) → ◌≡◌ {A = Option Access} (Some x) (Some y) → x ≡ y
 some_same x y h = ap or_first h
@@ -220,14 +220,14 @@ some_same x y h = ap or_first h
     or_first None = x
     or_first (Some z) = z
 
-kind-atomic : (parts : Parts) (a x : Access) (kind : OpKind) → a.kind ≡ kind → atomic_in (kind_row parts a kind) ≡ Some x → a ≡ x
-kind-atomic parts a x kinds.Load k is = absurd (look-atomic parts a x (parts.look a.addr a.len) is)
-kind-atomic parts a x kinds.Store k is = absurd (by_full parts.full is)
+kind-atomic : (parts : Parts) (a x : Access) (kind : AccessKind) → a.kind ≡ kind → atomic_in (kind_row parts a kind) ≡ Some x → a ≡ x
+kind-atomic parts a x AccessKind.Load k is = absurd (look-atomic parts a x (parts.look a.addr a.len) is)
+kind-atomic parts a x AccessKind.Store k is = absurd (by_full parts.full is)
   where
     by_full : (b : Bool) → atomic_in (cond b (Some (Need (Drain whys.Full))) None) ≡ Some x → ⊥
     by_full true h = absurd (cc)
     by_full false h = absurd (cc)
-kind-atomic parts a x kinds.Atomic k is = by_waiting parts.waiting is
+kind-atomic parts a x AccessKind.Atomic k is = by_waiting parts.waiting is
   where
     same : a ≡ atomic_access a.addr a.len a.put a.rd
     same = of_kind a k
@@ -235,7 +235,6 @@ kind-atomic parts a x kinds.Atomic k is = by_waiting parts.waiting is
     by_waiting : (b : Bool) → atomic_of (cond b (Need (Drain whys.Atomic)) (Need (Atomic a.addr a.len a.put a.rd))) ≡ Some x → a ≡ x
     by_waiting true h = absurd (cc)
     by_waiting false h = same ∙ some_same (atomic_access a.addr a.len a.put a.rd) x h
-kind-atomic parts a x kinds.Lost k is = absurd (cc)
 
 access-atomic : (parts : Parts) (access : Option Access) (x : Access) → atomic_in (access_row parts access) ≡ Some x → access ≡ Some x
 access-atomic parts None x is = absurd (cc)

@@ -2,7 +2,7 @@
 use Rattle.std.proofs.Common.{◌≡◌, ℕ, ◌+◌, ◌/◌, ◌%◌, ◌^◌, ◌≤◌, ◌++◌, List, length, Some, None, refl, sym, ap, subst, arith, ◌∙◌}
 use Rattle.std.proofs.lemmas.List.{length-append}
 use Rattle.lf_model.specs.State.{State, advanced, with_register}
-use Rattle.lf_model.specs.Effect.{Access, operates, cell_written}
+use Rattle.lf_model.specs.Effect.{Access, with_reads, operates, cell_written}
 use Rattle.lf_model.specs.Memory.{size_of, extended, with_words, load_effect, load_double_effect}
 use Rattle.lf_model.specs.Run.{Run, with_access}
 use Rattle.lf_model.specs.Step.{IsSound, Seen, Parts, state_of, run_seen, recorded, first_bad, access_row, answer_of, Does}
@@ -20,7 +20,7 @@ same_run s t p q states ops = rw states (rw ops refl)
 pub operation_does : (seen mid after : Seen) (parts : Parts) (a b : Arch) (access : Access) (cells : List ℕ) (next : ℕ → State) (value : ℕ) (registers : List ℕ)
     → access_row parts (Some access) ≡ None → answer_of parts (Some access) ≡ value → mid ≡ recorded value access seen
     → state_of b after ≡ next value → after.ops ≡ mid.ops → first_bad parts a.ctl.cwp registers ≡ None
-    → Does seen.site.core parts (operates registers access cells next) Retired (run_seen a seen) (run_seen b after)
+    → Does seen.site.core parts (with_reads registers (operates access cells next)) Retired (run_seen a seen) (run_seen b after)
 operation_does seen mid after parts a b access cells next value registers row answer record_made state ops good = record {
   answer = rw good (rw row refl);
   leaves = same_run (state_of b after) (next (answer_of parts (Some access))) after.ops (with_access seen.site.core (answer_of parts (Some access)) (Some access) seen.ops)
@@ -49,7 +49,7 @@ operation_keeps seen mid after a b access value spare between left record_made o
 pub load_does : (seen mid after : Seen) (parts : Parts) (a b : Arch) (name : MemName) (addr rd len got value : ℕ) (registers : List ℕ)
     → len ≡ size_of name → Reads parts addr len seen mid got → value ≡ extended name got
     → state_of b after ≡ advanced (with_register rd value (state_of a mid)) → after.ops ≡ mid.ops → first_bad parts a.ctl.cwp registers ≡ None
-    → Does seen.site.core parts (load_effect registers name addr rd (state_of a seen)) Retired (run_seen a seen) (run_seen b after)
+    → Does seen.site.core parts (with_reads registers (load_effect name addr rd (state_of a seen))) Retired (run_seen a seen) (run_seen b after)
 load_does seen mid after parts a b name addr rd len got value registers size reads is state ops good =
     let here : Reads parts addr (size_of name) seen mid got = subst (λ (n : ℕ). Reads parts addr n seen mid got) size reads in
     let next : ℕ → State = λ v. advanced (with_register rd (extended name v) (state_of a seen)) in
@@ -64,7 +64,7 @@ pub load_double_does : (seen mid wrote after : Seen) (parts : Parts) (a b : Arch
     → Reads parts addr 8 seen mid got → high ≡ got / 2 ^ 32 → low ≡ got % 2 ^ 32
     → state_of a wrote ≡ with_register rd high (state_of a mid) → wrote.ops ≡ mid.ops
     → state_of b after ≡ advanced (with_register (rd + 1) low (state_of a wrote)) → after.ops ≡ wrote.ops → first_bad parts a.ctl.cwp registers ≡ None
-    → Does seen.site.core parts (load_double_effect registers addr rd (state_of a seen)) Retired (run_seen a seen) (run_seen b after)
+    → Does seen.site.core parts (with_reads registers (load_double_effect addr rd (state_of a seen))) Retired (run_seen a seen) (run_seen b after)
 load_double_does seen mid wrote after parts a b addr rd got high low registers reads high_is low_is first first_ops second second_ops good =
     let next : ℕ → State = λ v. advanced (with_words rd v (state_of a seen)) in
     let one : state_of a wrote ≡ with_register rd (got / 2 ^ 32) (state_of a seen) = first ∙ ap (λ (v : ℕ). with_register rd v (state_of a mid)) high_is

@@ -1,8 +1,8 @@
 -- An instruction without an operation asks for no load and no atomic of the bus.
 use Rattle.std.proofs.Common.{◌≡◌, ℕ, ◌∷◌, [], Bool, cond, true, false, Option, Some, None, unwrap_or, refl, sym, subst, inl, inr, ◌⊎◌}
 use Rattle.lf_model.specs.State.{State}
+use Rattle.lf_model.specs.Effect.{Site, Access, Effect, with_reads}
 use Rattle.lf_model.specs.Instructions.{registers_read}
-use Rattle.lf_model.specs.Effect.{Site, Access, Effect}
 use Rattle.lf_model.specs.Traps.{unless_trap}
 use Rattle.lf_model.specs.OrdinaryTraps.{ordinary_trap}
 use Rattle.lf_model.specs.Effects.{completed, effect}
@@ -78,7 +78,7 @@ unless_trap-access (Some tt_) s e none = refl
 
 effect-access : (site : Site) (s : State) (i : Instr) → (IsAccessing i → ⊥) → (effect site s i).access ≡ None
 unfolding effect
-effect-access site s i other = unless_trap-access (ordinary_trap site s i) s (completed (registers_read i) site s i) (completed-access (registers_read i) site s i other)
+effect-access site s i other = unless_trap-access (ordinary_trap site s i) s (with_reads (registers_read i) (completed site s i)) (completed-access site s i other)
 
 -- what an instruction asks of the bus can be done
 pub asks : (here site : Site) (parts : Parts) (s : State) (i : Instr) (did : Did)

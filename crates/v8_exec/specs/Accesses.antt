@@ -4,12 +4,11 @@ use Rattle.lf_model.specs.CellAccess.{after_cells}
 use Rattle.lf_model.specs.Start.{touches_text}
 use Rattle.lf_model.specs.State.{State}
 use Rattle.lf_model.specs.Instructions.{operand_registers, stored_registers}
-use Rattle.lf_model.specs.Effect.{Site, Access, sum_of_operands}
+use Rattle.lf_model.specs.Effect.{Site, AccessKind, Access, sum_of_operands}
 use Rattle.lf_model.specs.Memory.{stored_number}
 use Rattle.lf_model.specs.Effects.{effect}
 use Rattle.lf_model.specs.Run.{performed}
 use Rattle.lf_model.specs.Step.{Seen, Parts, state_of, run_seen, first_bad, access_row, looked, recorded, came_to}
-use Rattle.lf_model.specs.declared.bus.OpKind.TheVariants as kinds
 use Rattle.lf_model.specs.declared.instruction.MemName.{MemName}
 use Rattle.lf_model.specs.declared.control.Arch.{Arch}
 use Rattle.lf_model.specs.declared.instruction.Instr.{Instr}
@@ -37,7 +36,7 @@ ReadsRequest parts s name rd rs1 src (Err bad) =
 
 -- the operation of a load
 abbrev pub load_access : ℕ → ℕ → ℕ → Access
-load_access addr len rd = record { kind = kinds.Load; addr = addr; len = len; put = 0; rd = rd }
+load_access addr len rd = record { kind = AccessKind.Load; addr = addr; len = len; put = 0; rd = rd }
 
 -- a load reads these bytes, and is recorded
 pub record Reads (parts : Parts) (addr len : ℕ) (before after : Seen) (value : ℕ) : Type 0 where
@@ -62,7 +61,7 @@ Looks parts addr len before after (Err did) = Misses parts addr len before after
 
 -- the operation of LDSTUB or SWAP
 abbrev pub atomic_access : ℕ → ℕ → ℕ → ℕ → Access
-atomic_access addr len new rd = record { kind = kinds.Atomic; addr = addr; len = len; put = new; rd = rd }
+atomic_access addr len new rd = record { kind = AccessKind.Atomic; addr = addr; len = len; put = new; rd = rd }
 
 -- an atomic is of a byte or a word
 abbrev pub is_atomic_size : ℕ → Bool

@@ -1,7 +1,8 @@
 -- What an instruction that calculates comes to: its result with icc and Y, or the trap in their place.
 use Rattle.std.specs.Prelude.{ℕ, ◌≡◌, ◌<◌, ◌∷◌, [], Option, Some, None, Result, Ok, Err}
 use Rattle.lf_model.specs.Traps.{when, first_trap}
-use Rattle.lf_model.specs.Calculation.{result_of, icc_after, y_after, overflows_tag, divides_by_zero}
+use Rattle.lf_model.specs.Families.{y_after, overflows_tag, divides_by_zero}
+use Rattle.lf_model.specs.Calculation.{result_of, icc_after}
 use Rattle.lf_model.specs.declared.instruction.CalcName.{CalcName}
 use Rattle.v8_exec.specs.declared.calculation.Inputs.{Inputs}
 use Rattle.v8_exec.specs.declared.calculation.Calculated.{Calculated}

@@ -149,7 +149,7 @@ fn unless_overflow(out: Calculated) -> Result<Calculated, u8>
 }
 
 /// What an instruction calculates, or the type of the trap that it takes instead.
-#[tactic(auto, unfolding(lf_model::specs::Calculation::result_of, lf_model::specs::Calculation::icc_after, lf_model::specs::Calculation::y_after, lf_model::specs::Calculation::overflows_tag, lf_model::specs::Calculation::divides_by_zero))]
+#[tactic(auto, unfolding(lf_model::specs::Calculation::result_of, lf_model::specs::Calculation::icc_after, lf_model::specs::Families::y_after, lf_model::specs::Families::overflows_tag, lf_model::specs::Families::divides_by_zero))]
 pub fn calculation(name: CalcName, x: Inputs) -> Result<Calculated, u8>
     requires { x.icc < 16 }
     ensures { Calculates name x result }

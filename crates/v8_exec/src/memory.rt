@@ -1,4 +1,4 @@
-ghost use Rattle.std.specs.Prelude.{◌≡◌, ◌<◌, ◌≤◌, ◌+◌, ◌*◌, ◌^◌, ℕ, List, [], IfOk, IfErr, false, true};
+ghost use Rattle.std.specs.Prelude.{◌≡◌, ◌<◌, ◌≤◌, ◌+◌, ◌*◌, ◌^◌, IfOk, IfErr, false, true};
 ghost use Rattle.lf_model.specs.CellAccess.{written_by};
 ghost use Rattle.lf_model.specs.Start.{touches_text};
 ghost use Rattle.lf_model.specs.Memory.{size_of, load_refused, store_refused, access_misaligned, access_refused, extended, load_effect, load_double_effect, store_effect, output_effect, atomic_effect, stored_number, mem_effect};
@@ -135,8 +135,8 @@ fn load<P: Ports>(a: &mut Arch, name: MemName, addr: u32, rd: u8, p: &mut P) -> 
     requires register { rd < 32 }
     requires access { IsAccess (P.seen p.old).site addr (size_of name) }
     requires room { 0 < P.room p.old }
-    ensures does { Makes (λ registers. load_effect registers name addr rd (state_of a.old (P.seen p.old))) (P.parts p.old) result a.old a.new (P.seen p.old) (P.seen p.new) }
-    ensures cells { P.struck p.new ≡ written_by P.write_cell result (load_effect [] name addr rd (state_of a.old (P.seen p.old))).writes (P.struck p.old) }
+    ensures does { Makes (load_effect name addr rd (state_of a.old (P.seen p.old))) (P.parts p.old) result a.old a.new (P.seen p.old) (P.seen p.new) }
+    ensures cells { P.struck p.new ≡ written_by P.write_cell result (load_effect name addr rd (state_of a.old (P.seen p.old))).writes (P.struck p.old) }
     ensures keeps { Keeps a.old a.new (P.seen p.old) (P.seen p.new) (P.room p.old) (P.room p.new) }
     ensures turn { Asks (P.seen p.old).site result }
 {
@@ -156,8 +156,8 @@ fn load_double<P: Ports>(a: &mut Arch, addr: u32, rd: u8, p: &mut P) -> Did
     requires register { rd + 1 < 32 }
     requires access { IsAccess (P.seen p.old).site addr 8 }
     requires room { 0 < P.room p.old }
-    ensures does { Makes (λ registers. load_double_effect registers addr rd (state_of a.old (P.seen p.old))) (P.parts p.old) result a.old a.new (P.seen p.old) (P.seen p.new) }
-    ensures cells { P.struck p.new ≡ written_by P.write_cell result (load_double_effect [] addr rd (state_of a.old (P.seen p.old))).writes (P.struck p.old) }
+    ensures does { Makes (load_double_effect addr rd (state_of a.old (P.seen p.old))) (P.parts p.old) result a.old a.new (P.seen p.old) (P.seen p.new) }
+    ensures cells { P.struck p.new ≡ written_by P.write_cell result (load_double_effect addr rd (state_of a.old (P.seen p.old))).writes (P.struck p.old) }
     ensures keeps { Keeps a.old a.new (P.seen p.old) (P.seen p.new) (P.room p.old) (P.room p.new) }
     ensures turn { Asks (P.seen p.old).site result }
 {
@@ -180,8 +180,8 @@ fn store<P: Ports>(a: &mut Arch, name: MemName, addr: u32, rd: u8, value: u64, p
     requires access { IsAccess (P.seen p.old).site addr (size_of name) }
     requires text { touches_text (P.seen p.old).site.image.text addr (size_of name) ≡ false }
     requires room { 0 < P.room p.old }
-    ensures does { Makes (λ registers. store_effect registers name addr rd (state_of a.old (P.seen p.old))) (P.parts p.old) result a.old a.new (P.seen p.old) (P.seen p.new) }
-    ensures cells { P.struck p.new ≡ written_by P.write_cell result (store_effect [] name addr rd (state_of a.old (P.seen p.old))).writes (P.struck p.old) }
+    ensures does { Makes (store_effect name addr rd (state_of a.old (P.seen p.old))) (P.parts p.old) result a.old a.new (P.seen p.old) (P.seen p.new) }
+    ensures cells { P.struck p.new ≡ written_by P.write_cell result (store_effect name addr rd (state_of a.old (P.seen p.old))).writes (P.struck p.old) }
     ensures keeps { Keeps a.old a.new (P.seen p.old) (P.seen p.new) (P.room p.old) (P.room p.new) }
     ensures turn { Asks (P.seen p.old).site result }
 {
@@ -198,8 +198,8 @@ fn output<P: Ports>(a: &mut Arch, rd: u8, value: u64, p: &mut P) -> Did
     requires sound { IsSound a.old }
     requires number { value ≡ register (state_of a.old (P.seen p.old)) rd }
     requires room { 0 < P.room p.old }
-    ensures does { Makes (λ registers. output_effect registers rd (state_of a.old (P.seen p.old))) (P.parts p.old) result a.old a.new (P.seen p.old) (P.seen p.new) }
-    ensures cells { P.struck p.new ≡ written_by P.write_cell result (output_effect [] rd (state_of a.old (P.seen p.old))).writes (P.struck p.old) }
+    ensures does { Makes (output_effect rd (state_of a.old (P.seen p.old))) (P.parts p.old) result a.old a.new (P.seen p.old) (P.seen p.new) }
+    ensures cells { P.struck p.new ≡ written_by P.write_cell result (output_effect rd (state_of a.old (P.seen p.old))).writes (P.struck p.old) }
     ensures keeps { Keeps a.old a.new (P.seen p.old) (P.seen p.new) (P.room p.old) (P.room p.new) }
     ensures turn { Asks (P.seen p.old).site result }
 {
@@ -216,8 +216,8 @@ fn atomic<P: Ports>(a: &Arch, name: MemName, addr: u32, rd: u8, value: u32, p: &
     requires text { touches_text (P.seen p.now).site.image.text addr (size_of name) ≡ false }
     requires fits { value < 2 ^ (8 * size_of name) }
     requires number { value ≡ stored_number name rd (state_of a.now (P.seen p.now)) }
-    ensures does { Makes (λ registers. atomic_effect registers name addr rd (state_of a.now (P.seen p.now))) (P.parts p.now) result a.now a.now (P.seen p.now) (P.seen p.now) }
-    ensures cells { P.struck p.now ≡ written_by P.write_cell result (atomic_effect [] name addr rd (state_of a.now (P.seen p.now))).writes (P.struck p.now) }
+    ensures does { Makes (atomic_effect name addr rd (state_of a.now (P.seen p.now))) (P.parts p.now) result a.now a.now (P.seen p.now) (P.seen p.now) }
+    ensures cells { P.struck p.now ≡ written_by P.write_cell result (atomic_effect name addr rd (state_of a.now (P.seen p.now))).writes (P.struck p.now) }
     ensures turn { Asks (P.seen p.now).site result }
 {
     if p.waiting() {
@@ -242,8 +242,8 @@ fn make<P: Ports>(a: &mut Arch, name: MemName, rd: u8, x: Request, p: &mut P) ->
     requires aligned { access_misaligned name x.addr ≡ false }
     requires accepted { access_refused (P.seen p.old).site name x.addr ≡ false }
     requires room { 0 < P.room p.old }
-    ensures does { Makes (λ registers. mem_effect registers name x.addr rd (state_of a.old (P.seen p.old))) (P.parts p.old) result a.old a.new (P.seen p.old) (P.seen p.new) }
-    ensures cells { (registers : List ℕ) → P.struck p.new ≡ written_by P.write_cell result (mem_effect registers name x.addr rd (state_of a.old (P.seen p.old))).writes (P.struck p.old) }
+    ensures does { Makes (mem_effect name x.addr rd (state_of a.old (P.seen p.old))) (P.parts p.old) result a.old a.new (P.seen p.old) (P.seen p.new) }
+    ensures cells { P.struck p.new ≡ written_by P.write_cell result (mem_effect name x.addr rd (state_of a.old (P.seen p.old))).writes (P.struck p.old) }
     ensures keeps { Keeps a.old a.new (P.seen p.old) (P.seen p.new) (P.room p.old) (P.room p.new) }
     ensures turn { Asks (P.seen p.old).site result }
 {
@@ -293,8 +293,8 @@ pub fn access<P: Ports>(a: &mut Arch, name: MemName, rd: u8, rs1: u8, src: Src, 
 fn control<P: Ports>(a: &mut Arch, name: MemName, rd: u8, p: &mut P) -> Did
     requires sound { IsSound a.old }
     requires register { rd < 32 }
-    ensures does { Makes (λ registers. control_effect registers name rd (state_of a.old (P.seen p.old))) (P.parts p.old) result a.old a.new (P.seen p.old) (P.seen p.new) }
-    ensures cells { (registers : List ℕ) → P.struck p.new ≡ written_by P.write_cell result (control_effect registers name rd (state_of a.old (P.seen p.old))).writes (P.struck p.old) }
+    ensures does { Makes (control_effect name rd (state_of a.old (P.seen p.old))) (P.parts p.old) result a.old a.new (P.seen p.old) (P.seen p.new) }
+    ensures cells { P.struck p.new ≡ written_by P.write_cell result (control_effect name rd (state_of a.old (P.seen p.old))).writes (P.struck p.old) }
     ensures keeps { Keeps a.old a.new (P.seen p.old) (P.seen p.new) (P.room p.old) (P.room p.new) }
     ensures turn { Asks (P.seen p.old).site result }
 {

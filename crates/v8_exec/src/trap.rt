@@ -1,4 +1,4 @@
-ghost use Rattle.std.specs.Prelude.{◌≡◌, ◌<◌, List, [], ℕ, Some, IsSome};
+ghost use Rattle.std.specs.Prelude.{◌≡◌, ◌<◌, List, ℕ, Some, IsSome};
 ghost use Rattle.lf_model.specs.CellAccess.{cells_after, written_by};
 ghost use Rattle.lf_model.specs.Traps.{trap_effect, traps_in_order, unless_trap};
 ghost use Rattle.lf_model.specs.Traps.{first_trap as first_of};
@@ -48,8 +48,8 @@ pub fn stop<P: Ports>(bad: RegBad, p: &P) -> Did
 /// instruction read were good.
 pub fn take<P: Ports>(a: &mut Arch, tt: u8, p: &mut P) -> Did
     requires sound { IsSound a.old }
-    ensures does { Makes (λ registers. trap_effect tt registers (state_of a.old (P.seen p.old))) (P.parts p.old) result a.old a.new (P.seen p.old) (P.seen p.new) }
-    ensures cells { P.struck p.new ≡ written_by P.write_cell result (trap_effect tt [] (state_of a.old (P.seen p.old))).writes (P.struck p.old) }
+    ensures does { Makes (trap_effect tt (state_of a.old (P.seen p.old))) (P.parts p.old) result a.old a.new (P.seen p.old) (P.seen p.new) }
+    ensures cells { P.struck p.new ≡ written_by P.write_cell result (trap_effect tt (state_of a.old (P.seen p.old))).writes (P.struck p.old) }
     ensures keeps { Keeps a.old a.new (P.seen p.old) (P.seen p.new) (P.room p.old) (P.room p.new) }
     ensures turn { (site : Site) → Asks site result }
 {
@@ -66,8 +66,8 @@ pub fn take<P: Ports>(a: &mut Arch, tt: u8, p: &mut P) -> Did
 /// An ordinary trap of an instruction that reads no register.
 pub fn take_unread<P: Ports>(a: &mut Arch, tt: u8, p: &mut P) -> Did
     requires sound { IsSound a.old }
-    ensures does { Does (P.seen p.old).site.core (P.parts p.old) (trap_effect tt [] (state_of a.old (P.seen p.old))) result (run_seen a.old (P.seen p.old)) (run_seen a.new (P.seen p.new)) }
-    ensures cells { P.struck p.new ≡ cells_after P.read_cell P.write_cell (P.parts p.old) a.old.ctl.cwp (trap_effect tt [] (state_of a.old (P.seen p.old))) result (P.struck p.old) }
+    ensures does { Does (P.seen p.old).site.core (P.parts p.old) (trap_effect tt (state_of a.old (P.seen p.old))) result (run_seen a.old (P.seen p.old)) (run_seen a.new (P.seen p.new)) }
+    ensures cells { P.struck p.new ≡ cells_after P.read_cell P.write_cell (P.parts p.old) a.old.ctl.cwp (trap_effect tt (state_of a.old (P.seen p.old))) result (P.struck p.old) }
     ensures keeps { Keeps a.old a.new (P.seen p.old) (P.seen p.new) (P.room p.old) (P.room p.new) }
 {
     take(a, tt, p)
@@ -77,8 +77,8 @@ pub fn take_unread<P: Ports>(a: &mut Arch, tt: u8, p: &mut P) -> Did
 pub fn refuse<P: Ports>(a: &mut Arch, checks: Checks, p: &mut P) -> Did
     requires sound { IsSound a.old }
     requires trap { IsSome (first_of (traps_in_order checks)) }
-    ensures does { (tt_ : ℕ) → first_of (traps_in_order checks) ≡ Some tt_ → Does (P.seen p.old).site.core (P.parts p.old) (trap_effect tt_ [] (state_of a.old (P.seen p.old))) result (run_seen a.old (P.seen p.old)) (run_seen a.new (P.seen p.new)) }
-    ensures cells { P.struck p.new ≡ cells_after P.read_cell P.write_cell (P.parts p.old) a.old.ctl.cwp (unless_trap (first_of (traps_in_order checks)) (state_of a.old (P.seen p.old)) (advances [] (state_of a.old (P.seen p.old)))) result (P.struck p.old) }
+    ensures does { (tt_ : ℕ) → first_of (traps_in_order checks) ≡ Some tt_ → Does (P.seen p.old).site.core (P.parts p.old) (trap_effect tt_ (state_of a.old (P.seen p.old))) result (run_seen a.old (P.seen p.old)) (run_seen a.new (P.seen p.new)) }
+    ensures cells { P.struck p.new ≡ cells_after P.read_cell P.write_cell (P.parts p.old) a.old.ctl.cwp (unless_trap (first_of (traps_in_order checks)) (state_of a.old (P.seen p.old)) (advances (state_of a.old (P.seen p.old)))) result (P.struck p.old) }
     ensures keeps { Keeps a.old a.new (P.seen p.old) (P.seen p.new) (P.room p.old) (P.room p.new) }
 {
     match first_trap(&checks) {

@@ -1,4 +1,4 @@
-ghost use Rattle.std.specs.Prelude.{◌≡◌, ◌<◌, [], IfOk, IfErr, OnOk, None, Some};
+ghost use Rattle.std.specs.Prelude.{◌≡◌, ◌<◌, IfOk, IfErr, OnOk, None, Some};
 ghost use Rattle.lf_model.specs.CellAccess.{written_by};
 ghost use Rattle.lf_model.specs.Effect.{sets};
 ghost use Rattle.lf_model.specs.Traps.{traps_in_order};
@@ -25,8 +25,8 @@ fn enter<P: Ports>(a: &mut Arch, window: u8, rd: u8, sum: u32, p: &mut P) -> Did
     requires sound { IsSound a.old }
     requires window { window < 8 }
     requires register { rd < 32 }
-    ensures does { Makes (λ registers. sets registers rd sum (in_window window (state_of a.old (P.seen p.old)))) (P.parts p.old) result a.old a.new (P.seen p.old) (P.seen p.new) }
-    ensures cells { P.struck p.new ≡ written_by P.write_cell result (sets [] rd sum (in_window window (state_of a.old (P.seen p.old)))).writes (P.struck p.old) }
+    ensures does { Makes (sets rd sum (in_window window (state_of a.old (P.seen p.old)))) (P.parts p.old) result a.old a.new (P.seen p.old) (P.seen p.new) }
+    ensures cells { P.struck p.new ≡ written_by P.write_cell result (sets rd sum (in_window window (state_of a.old (P.seen p.old)))).writes (P.struck p.old) }
     ensures keeps { Keeps a.old a.new (P.seen p.old) (P.seen p.new) (P.room p.old) (P.room p.new) }
 {
     a.ctl.cwp = window;

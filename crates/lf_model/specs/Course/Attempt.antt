@@ -6,11 +6,9 @@ use Rattle.lf_model.specs.Caches.Look.LookUp.{Hit, Miss}
 use Rattle.lf_model.specs.Course.Arrays.{Arrays, CellsRead, cells_of, read_cells}
 use Rattle.lf_model.specs.Course.Outcome.{Outcome}
 use Rattle.lf_model.specs.Course.Outcome.Outcome.{NoText, FetchMiss, BadRegister, OrdinaryTrap, LoadMiss, LoadHit, Store, Atomic, Barrier, Other}
-use Rattle.lf_model.specs.Effect.{Access, Effect}
+use Rattle.lf_model.specs.Effect.{AccessKind, Access, Effect}
 use Rattle.lf_model.specs.Start.{is_text_word}
 use Rattle.lf_model.specs.State.{State}
-use Rattle.lf_model.specs.declared.bus.OpKind.{OpKind}
-use Rattle.lf_model.specs.declared.bus.OpKind.TheVariants as kinds
 use Rattle.lf_model.specs.declared.bus.Why.{Why}
 use Rattle.lf_model.specs.declared.image.Image.{Image}
 
@@ -32,12 +30,10 @@ load_outcome (Miss why) = LoadMiss why
 abbrev pub load_attempt : Arrays → Looked → Attempt
 load_attempt a looked = comes_to (load_outcome looked.answer) (record a { data_cache = looked.cache })
 
--- no instruction makes a lost store: a store is lost, if at all, when it drains
-abbrev pub access_attempt : Access → Arrays → OpKind → Attempt
-access_attempt x a kinds.Load = load_attempt a (look x.addr x.len a.data_cache)
-access_attempt x a kinds.Store = comes_to Store a
-access_attempt x a kinds.Atomic = comes_to Atomic a
-access_attempt x a kinds.Lost = comes_to Store a
+abbrev pub access_attempt : Access → Arrays → AccessKind → Attempt
+access_attempt x a AccessKind.Load = load_attempt a (look x.addr x.len a.data_cache)
+access_attempt x a AccessKind.Store = comes_to Store a
+access_attempt x a AccessKind.Atomic = comes_to Atomic a
 
 abbrev pub barrier_attempt : Arrays → Option Why → Attempt
 barrier_attempt a None = comes_to Other a

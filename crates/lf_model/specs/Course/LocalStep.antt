@@ -11,7 +11,7 @@ use Rattle.lf_model.specs.Course.Outcome.{Outcome, Need}
 use Rattle.lf_model.specs.Course.Outcome.Need.{NoTurn, Turn, RegisterStop}
 use Rattle.lf_model.specs.Course.Outcome.Outcome.{NotTried, NoText, FetchMiss, BadRegister, OrdinaryTrap, LoadMiss, LoadHit, Store, Atomic, Barrier, Other}
 use Rattle.lf_model.specs.Course.Progress.{ErrorTrap, Progress, next_needs, retired_if}
-use Rattle.lf_model.specs.Effect.{Access, Effect}
+use Rattle.lf_model.specs.Effect.{Access, operation_kind, Effect}
 use Rattle.lf_model.specs.Flips.{syndrome}
 use Rattle.lf_model.specs.Flips.Moment.{Named}
 use Rattle.lf_model.specs.Names.{same_why}
@@ -24,7 +24,7 @@ use Rattle.lf_model.specs.declared.bus.Why.TheVariants.{Flush}
 -- a store updates the data cache
 abbrev pub store_by : Option Access → Arrays → Arrays
 store_by None a = a
-store_by (Some x) a = if is_store_kind x.kind then record a { data_cache = updated x.addr x.len a.data_cache } else a
+store_by (Some x) a = if is_store_kind (operation_kind x.kind) then record a { data_cache = updated x.addr x.len a.data_cache } else a
 
 -- FLUSH empties both caches
 abbrev pub flush_by : Option Why → Arrays → Arrays

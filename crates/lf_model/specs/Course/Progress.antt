@@ -3,7 +3,7 @@ use Rattle.std.specs.Prelude.{ℕ, ◌+◌, ◌-◌, nat_lt, nat_le, Bool, List,
 use Rattle.lf_model.specs.Course.Arrays.{Arrays, reset_arrays}
 use Rattle.lf_model.specs.Course.Core.{Ground, is_store_kind}
 use Rattle.lf_model.specs.Course.Outcome.{Outcome, Need, step_needs}
-use Rattle.lf_model.specs.Effect.{Access, Effect}
+use Rattle.lf_model.specs.Effect.{Access, operation_kind, Effect}
 use Rattle.lf_model.specs.Run.{Run, answered}
 use Rattle.lf_model.specs.State.{reset}
 
@@ -78,7 +78,7 @@ next_needs g k outcome =
 -- how many stores an instruction with this operation makes
 abbrev pub stores_made : Option Access → ℕ
 stores_made None = 0
-stores_made (Some x) = if is_store_kind x.kind then 1 else 0
+stores_made (Some x) = if is_store_kind (operation_kind x.kind) then 1 else 0
 
 -- the operation that retires with it, if it makes one
 abbrev pub completed : ℕ → Option ℕ → ℕ → Option Access → List Completion

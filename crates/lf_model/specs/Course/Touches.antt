@@ -5,7 +5,7 @@ use Rattle.lf_model.specs.Caches.Look.{look}
 use Rattle.lf_model.specs.Caches.Change.{updated, snooped, filled, flushed}
 use Rattle.lf_model.specs.Course.Arrays.{Arrays, begun, read_back}
 use Rattle.lf_model.specs.Course.Core.{is_store_kind}
-use Rattle.lf_model.specs.Effect.{Access, Effect}
+use Rattle.lf_model.specs.Effect.{Access, operation_kind, Effect}
 use Rattle.lf_model.specs.Flips.{Moment, is_bad_word}
 use Rattle.lf_model.specs.Names.{same_why}
 use Rattle.lf_model.specs.declared.bus.Why.{Why}
@@ -40,7 +40,7 @@ read_touches (c ∷ cs) cells = ReadCell c ∷ unless_bad (is_bad_word (history_
 -- ---- the touches of an instruction that retires, in order: its store, its flush, and the cells that it writes
 
 abbrev pub store_touches : Access → List Touch
-store_touches x = if is_store_kind x.kind then StoreData x.addr x.len x.put ∷ [] else []
+store_touches x = if is_store_kind (operation_kind x.kind) then StoreData x.addr x.len x.put ∷ [] else []
 
 abbrev pub access_touches : Option Access → List Touch
 access_touches None = []

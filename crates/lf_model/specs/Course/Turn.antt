@@ -11,12 +11,10 @@ use Rattle.lf_model.specs.Course.Outcome.{Need, drains}
 use Rattle.lf_model.specs.Course.Outcome.Need.{NoTurn}
 use Rattle.lf_model.specs.Course.Outcome.Outcome.{NotTried}
 use Rattle.lf_model.specs.Course.Progress.{Progress, store_waits, next_needs}
-use Rattle.lf_model.specs.Effect.{Access, Effect}
+use Rattle.lf_model.specs.Effect.{AccessKind, Access, Effect}
 use Rattle.lf_model.specs.Names.{same_why}
 use Rattle.lf_model.specs.Start.{is_text_word}
 use Rattle.lf_model.specs.declared.bus.Entry.{Entry}
-use Rattle.lf_model.specs.declared.bus.OpKind.{OpKind}
-use Rattle.lf_model.specs.declared.bus.OpKind.TheVariants as ops
 use Rattle.lf_model.specs.declared.bus.Transfer.{Transfer}
 use Rattle.lf_model.specs.declared.bus.TurnKind.{TurnKind}
 use Rattle.lf_model.specs.declared.bus.TurnKind.TheVariants.{Fetch, Load, Store, Atomic, Snoop, Look, Fix}
@@ -69,19 +67,17 @@ abbrev pub store_target : Entry → Target
 store_target entry = record { addr = entry.addr; len = entry.len; number = entry.k }
 
 -- the target of a load's fill, and of an atomic, by the operation that the instruction makes
-abbrev pub load_target : Access → OpKind → Option Target
-load_target x ops.Load = Some (line_target x.addr)
-load_target x ops.Store = None
-load_target x ops.Atomic = None
-load_target x ops.Lost = None
+abbrev pub load_target : Access → AccessKind → Option Target
+load_target x AccessKind.Load = Some (line_target x.addr)
+load_target x AccessKind.Store = None
+load_target x AccessKind.Atomic = None
 
-abbrev pub atomic_target : ℕ → Access → OpKind → Option Target
-atomic_target number x ops.Load = None
-atomic_target number x ops.Store = None
-atomic_target number x ops.Atomic = Some (record { addr = x.addr; len = x.len; number = number })
-atomic_target number x ops.Lost = None
+abbrev pub atomic_target : ℕ → Access → AccessKind → Option Target
+atomic_target number x AccessKind.Load = None
+atomic_target number x AccessKind.Store = None
+atomic_target number x AccessKind.Atomic = Some (record { addr = x.addr; len = x.len; number = number })
 
-abbrev pub target_by : (Access → OpKind → Option Target) → Option Access → Option Target
+abbrev pub target_by : (Access → AccessKind → Option Target) → Option Access → Option Target
 target_by target None = None
 target_by target (Some x) = target x x.kind
 

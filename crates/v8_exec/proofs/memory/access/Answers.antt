@@ -1,13 +1,11 @@
-use Rattle.std.proofs.Common.{◌∙◌}
-use Rattle.lf_model.specs.Effects.{effect}
+use Rattle.lf_model.specs.Effects.{completed, effect}
 use Rattle.lf_model.specs.OrdinaryTraps.{ordinary_trap}
 use Rattle.lf_model.specs.Instructions.{registers_read}
-use Rattle.lf_model.specs.Effect.{sum_of_operands}
-use Rattle.lf_model.specs.Memory.{mem_effect}
+use Rattle.lf_model.specs.Effect.{with_reads}
 use Rattle.lf_model.specs.Step.{state_of, run_seen}
 use Rattle.lf_model.specs.declared.instruction.Instr.TheVariants.{Mem}
 use Rattle.v8_exec.proofs.CellLemmas.{touched_bad}
-use Rattle.v8_exec.proofs.TrapLemmas.{mem_stops, mem_effect-reads, unless_trap-reads}
+use Rattle.v8_exec.proofs.TrapLemmas.{stops}
 use Rattle.v8_exec.proofs.memory.access.Goals as goal
 
 pub returns-in-Err-clause-does : goal.returns-in-Err-clause-does
@@ -17,8 +15,9 @@ returns-in-Err-clause-does g c =
     let parts = g.P.Ports.parts c.args.p.now in
     let s = state_of c.args.a.now seen in
     let i = Mem c.args.name c.args.rd c.args.rs1 c.args.src in
-    let stops = mem_stops seen.site.core parts (ordinary_trap seen.site s i) (registers_read i) c.args.name (sum_of_operands s c.args.rs1 c.args.src) c.args.rd (run_seen c.args.a.now seen) c.in-Err.bad c.in-Err.ensures.read in
-    rw c.stop.ensures.stop (rw c.read_request.ensures.parts (rw c.read_request.ensures.seen stops))
+    let e = with_reads (registers_read i) (completed seen.site s i) in
+    let stopped = stops seen.site.core parts (ordinary_trap seen.site s i) e (run_seen c.args.a.now seen) c.in-Err.bad c.in-Err.ensures.read in
+    rw c.stop.ensures.stop (rw c.read_request.ensures.parts (rw c.read_request.ensures.seen stopped))
 
 pub returns-in-Err-clause-cells : goal.returns-in-Err-clause-cells
 unfolding effect
@@ -26,7 +25,6 @@ returns-in-Err-clause-cells g c =
     let seen = g.P.Ports.seen c.args.p.now in
     let s = state_of c.args.a.now seen in
     let i = Mem c.args.name c.args.rd c.args.rs1 c.args.src in
-    let addr = sum_of_operands s c.args.rs1 c.args.src in
-    let reads = unless_trap-reads (ordinary_trap seen.site s i) s (mem_effect (registers_read i) c.args.name addr c.args.rd s) ∙ mem_effect-reads (registers_read i) c.args.name addr c.args.rd s in
-    touched_bad g.P.Ports.read_cell g.P.Ports.write_cell (g.P.Ports.parts c.args.p.now) c.args.a.now.ctl.cwp (effect seen.site s i) (registers_read i) c.stop.result
-    (g.P.Ports.struck c.args.p.now) (g.P.Ports.struck c.read_request.new.p) reads c.read_request.ensures.cells c.stop.ensures.unwritten
+    touched_bad g.P.Ports.read_cell g.P.Ports.write_cell (g.P.Ports.parts c.args.p.now) c.args.a.now.ctl.cwp
+    (ordinary_trap seen.site s i) s (with_reads (registers_read i) (completed seen.site s i)) c.stop.result
+    (g.P.Ports.struck c.args.p.now) (g.P.Ports.struck c.read_request.new.p) c.read_request.ensures.cells c.stop.ensures.unwritten

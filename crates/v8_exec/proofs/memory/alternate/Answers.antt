@@ -1,16 +1,14 @@
-use Rattle.std.proofs.Common.{◌≡◌, ◌∙◌, Some, None, not, refl, ap, sym, rules}
+use Rattle.std.proofs.Common.{◌≡◌, ◌∙◌, Some, None, not, refl, ap, sym}
 use Rattle.std.specs.Option.{option_or}
 use Rattle.lf_model.specs.Traps.{when, privileged_instruction, mem_address_not_aligned, data_access_exception}
-use Rattle.lf_model.specs.Alternate.{alternate_effect}
-use Rattle.lf_model.specs.Effects.{effect}
+use Rattle.lf_model.specs.Effect.{with_reads}
+use Rattle.lf_model.specs.Effects.{completed, effect}
 use Rattle.lf_model.specs.OrdinaryTraps.{ordinary_trap}
 use Rattle.lf_model.specs.Instructions.{registers_read}
-use Rattle.lf_model.specs.Effect.{sum_of_operands}
 use Rattle.lf_model.specs.Step.{Parts, state_of, run_seen, first_bad}
 use Rattle.lf_model.specs.declared.instruction.Instr.TheVariants.{Alternate}
-use Rattle.lf_model.specs.declared.instruction.Src.TheVariants.{Reg}
 use Rattle.v8_exec.proofs.CellLemmas.{touched_bad, touched_trap}
-use Rattle.v8_exec.proofs.TrapLemmas.{alternate_stops, alternate_effect-reads, trap_does, unless_trap-reads}
+use Rattle.v8_exec.proofs.TrapLemmas.{stops, trap_does}
 use Rattle.v8_exec.proofs.CheckLemmas.{cleared, privileged_access}
 use Rattle.v8_exec.proofs.memory.alternate.Given.{Over}
 use Rattle.v8_exec.proofs.memory.alternate.Goals as goal
@@ -22,8 +20,9 @@ returns-in-Err-clause-does g c =
     let parts = g.P.Ports.parts c.args.p.now in
     let s = state_of c.args.a.now seen in
     let i = Alternate c.args.name c.args.rd c.args.rs1 c.args.rs2 c.args.asi in
-    let stops = alternate_stops seen.site.core parts (ordinary_trap seen.site s i) (registers_read i) c.args.name c.args.asi (sum_of_operands s c.args.rs1 (Reg c.args.rs2)) c.args.rd (run_seen c.args.a.now seen) c.in-Err.bad c.in-Err.ensures.read in
-    rw c.stop.ensures.stop (rw c.read_request.ensures.parts (rw c.read_request.ensures.seen stops))
+    let e = with_reads (registers_read i) (completed seen.site s i) in
+    let stopped = stops seen.site.core parts (ordinary_trap seen.site s i) e (run_seen c.args.a.now seen) c.in-Err.bad c.in-Err.ensures.read in
+    rw c.stop.ensures.stop (rw c.read_request.ensures.parts (rw c.read_request.ensures.seen stopped))
 
 -- the trap that is taken
 taken : (g : Over) (c : goal.After-take g) → let seen = g.P.Ports.seen c.args.p.now in
@@ -45,8 +44,8 @@ returns-in-Some-clause-does g c =
     let s = state_of c.args.a.now seen in
     let i = Alternate c.args.name c.args.rd c.args.rs1 c.args.rs2 c.args.asi in
     let good = ap (λ (t : Parts). first_bad t c.args.a.now.ctl.cwp (registers_read i)) c.read_request.ensures.parts ∙ c.in-Ok.ensures.read.2 in
-    trap_does seen.site.core parts (ordinary_trap seen.site s i) c.in-Some.tt s (alternate_effect (registers_read i) c.args.name c.args.asi (sum_of_operands s c.args.rs1 (Reg c.args.rs2)) c.args.rd s) (registers_read i) c.take.result (run_seen c.args.a.now seen) (run_seen c.take.new.a (g.P.Ports.seen c.take.new.p))
-    (taken g c) (alternate_effect-reads (registers_read i) c.args.name c.args.asi (sum_of_operands s c.args.rs1 (Reg c.args.rs2)) c.args.rd s)
+    trap_does seen.site.core parts (ordinary_trap seen.site s i) c.in-Some.tt s (with_reads (registers_read i) (completed seen.site s i)) c.take.result (run_seen c.args.a.now seen) (run_seen c.take.new.a (g.P.Ports.seen c.take.new.p))
+    (taken g c)
     (rw (sym c.read_request.ensures.seen) (rw (sym c.read_request.ensures.parts) (c.take.ensures.does (registers_read i) good)))
 
 pub returns-in-Some-clause-turn : goal.returns-in-Some-clause-turn
@@ -58,10 +57,9 @@ returns-in-Err-clause-cells g c =
     let seen = g.P.Ports.seen c.args.p.now in
     let s = state_of c.args.a.now seen in
     let i = Alternate c.args.name c.args.rd c.args.rs1 c.args.rs2 c.args.asi in
-    let addr = sum_of_operands s c.args.rs1 (Reg c.args.rs2) in
-    let reads = unless_trap-reads (ordinary_trap seen.site s i) s (alternate_effect (registers_read i) c.args.name c.args.asi addr c.args.rd s) ∙ alternate_effect-reads (registers_read i) c.args.name c.args.asi addr c.args.rd s in
-    touched_bad g.P.Ports.read_cell g.P.Ports.write_cell (g.P.Ports.parts c.args.p.now) c.args.a.now.ctl.cwp (effect seen.site s i) (registers_read i) c.stop.result
-    (g.P.Ports.struck c.args.p.now) (g.P.Ports.struck c.read_request.new.p) reads c.read_request.ensures.cells c.stop.ensures.unwritten
+    touched_bad g.P.Ports.read_cell g.P.Ports.write_cell (g.P.Ports.parts c.args.p.now) c.args.a.now.ctl.cwp
+    (ordinary_trap seen.site s i) s (with_reads (registers_read i) (completed seen.site s i)) c.stop.result
+    (g.P.Ports.struck c.args.p.now) (g.P.Ports.struck c.read_request.new.p) c.read_request.ensures.cells c.stop.ensures.unwritten
 
 pub returns-in-Some-clause-cells : goal.returns-in-Some-clause-cells
 unfolding effect
@@ -69,15 +67,7 @@ returns-in-Some-clause-cells g c =
     let seen = g.P.Ports.seen c.args.p.now in
     let s = state_of c.args.a.now seen in
     let i = Alternate c.args.name c.args.rd c.args.rs1 c.args.rs2 c.args.asi in
-    let addr = sum_of_operands s c.args.rs1 (Reg c.args.rs2) in
     touched_trap g.P.Ports.read_cell g.P.Ports.write_cell (g.P.Ports.parts c.args.p.now) c.args.a.now.ctl.cwp (ordinary_trap seen.site s i) c.in-Some.tt s
-    (alternate_effect (registers_read i) c.args.name c.args.asi addr c.args.rd s) (registers_read i) c.take.result
+    (with_reads (registers_read i) (completed seen.site s i)) c.take.result
     (g.P.Ports.struck c.args.p.now) (g.P.Ports.struck c.read_request.new.p) (g.P.Ports.struck c.take.new.p)
-    (taken g c) (alternate_effect-reads (registers_read i) c.args.name c.args.asi addr c.args.rd s) c.read_request.ensures.cells c.take.ensures.cells
-
-pub returns-in-None-clause-cells : goal.returns-in-None-clause-cells
-unfolding effect
-returns-in-None-clause-cells g c =
-    let i = Alternate c.args.name c.args.rd c.args.rs1 c.args.rs2 c.args.asi in
-    let made = c.make.ensures.cells (registers_read i) in
-    search rules
+    (taken g c) c.read_request.ensures.cells c.take.ensures.cells
