@@ -1,7 +1,10 @@
 -- What a read of a word answers.
 use Rattle.std.proofs.Common.{◌≡◌, ℕ, Bool, true, false, cond, Some, None, Ok, Err, refl, sym, ap, ap₂, ◌∙◌}
 use Rattle.coded_words.specs.Words.{Words}
+use Rattle.lf_model.specs.Caches.Slot.{history_at}
+use Rattle.lf_model.specs.Flips.{syndrome}
 use Rattle.lf_model.specs.declared.bus.Bad.{Bad}
+use Rattle.ram_words.specs.Ram.{place_of}
 use Rattle.ram_words.specs.declared.answer.Got.{Got}
 use Rattle.ft_memory.specs.Memory.{value_at, is_bad_at, syndrome_at, answer_of_read, value_shown}
 
@@ -12,6 +15,10 @@ good_of false e g got is = (let given : Ok got ≡ Ok g = is in let same : got �
 bad_of : (b : Bool) (e bad : Bad) (g : Got) → Err bad ≡ cond b (Err e) (Ok g) → (bad ≡ e) × (b ≡ true)
 bad_of true e bad g is = (let given : Err bad ≡ Err e = is in let same : bad ≡ e = cc in same, refl)
 bad_of false e bad g is = cc
+
+-- the syndrome that was read at a place
+pub same_syndrome : (n m : Words) (place addr syn : ℕ) → n ≡ m → place ≡ place_of addr → syn ≡ syndrome (history_at place n.histories) → syn ≡ syndrome_at m addr
+same_syndrome n m place addr syn same here is = is ∙ ap₂ (λ (w : Words) (p : ℕ). syndrome (history_at p w.histories)) same here
 
 module _ (m : Words) (addr : ℕ) where
   pub good_read : (v syn : ℕ) → v ≡ value_at m addr → syn ≡ syndrome_at m addr → is_bad_at m addr ≡ false
@@ -30,12 +37,12 @@ module _ (m : Words) (addr : ℕ) where
   -- what holds of the word by the answer
   pub record IsGood (got : Got) : Type 0 where
     pub value : got.value ≡ value_at m addr
-    pub syndrome : got.syn ≡ syndrome_at m addr
+    pub syn : got.syn ≡ syndrome_at m addr
     pub not_bad : is_bad_at m addr ≡ false
 
   pub record IsLost (word : Bad) : Type 0 where
     pub addr_is : word.addr ≡ addr
-    pub syndrome : word.syn ≡ syndrome_at m addr
+    pub syn : word.syn ≡ syndrome_at m addr
     pub bad : is_bad_at m addr ≡ true
 
   pub good_answer : (got : Got) → Ok got ≡ answer_of_read m addr → IsGood got
@@ -44,7 +51,7 @@ module _ (m : Words) (addr : ℕ) where
       let both = good_of (is_bad_at m addr) (record { addr = addr; syn = syndrome_at m addr }) (record { value = value_at m addr; syn = syndrome_at m addr }) got is in
       record {
         value = ap (λ (g : Got). g.value) both.0;
-        syndrome = ap (λ (g : Got). g.syn) both.0;
+        syn = ap (λ (g : Got). g.syn) both.0;
         not_bad = both.1;
       }
 
@@ -54,7 +61,7 @@ module _ (m : Words) (addr : ℕ) where
       let both = bad_of (is_bad_at m addr) (record { addr = addr; syn = syndrome_at m addr }) word (record { value = value_at m addr; syn = syndrome_at m addr }) is in
       record {
         addr_is = ap (λ (b : Bad). b.addr) both.0;
-        syndrome = ap (λ (b : Bad). b.syn) both.0;
+        syn = ap (λ (b : Bad). b.syn) both.0;
         bad = both.1;
       }
 

@@ -7,7 +7,7 @@ use Rattle.ft_memory.proofs.memory.Memory.exchange.Goals as goal
 pub returns-in_err-got-clause-stored : goal.returns-in_err-got-clause-stored
 returns-in_err-got-clause-stored c =
     let m = c.args.self.now in
-    let is = lost_answer m (word_of c.args.addr) c.in_err-got.field-0 (rw c.word_of-word.ensures at c.in_err-got.ensures) in
+    let is = lost_answer m (word_of c.args.addr) c.in_err-got.field-0.0 (rw c.word_of-word.ensures at c.in_err-got.ensures) in
     atomic_lost m c.args.addr c.args.len c.args.v is.bad
 
 pub returns-clause-stored : goal.returns-clause-stored

@@ -3,6 +3,7 @@ use Rattle.std.proofs.lemmas.List.{length-set}
 use Rattle.coded_words.specs.Words.{Words, word_in}
 use Rattle.coded_words.proofs.AnswerLemmas as answers
 use Rattle.ram_words.specs.Ram.{place_of}
+use Rattle.ft_memory.proofs.ReadLemmas.{same_syndrome}
 use Rattle.ft_memory.proofs.WriteLemmas.{place_within, fix_unwritten, fix_written, fix_keeps, fix_clean, fix_corrected, fix_bad}
 use Rattle.ft_memory.proofs.memory.Memory.fix.Goals as goal
 
@@ -35,8 +36,8 @@ pub returns-in-Fixed-clause-answer : goal.returns-in-Fixed-clause-answer
 returns-in-Fixed-clause-answer c =
     let answer = rw (c.self.view_is, c.place_of-place.ensures) at c.in-Fixed.ensures.answer in
     let is = answers.fixed_answer (word_in c.args.self.now (place_of c.args.addr)) c.in-Fixed.value c.in-Fixed.bit (sym answer) in
-    let syndrome = rw (c.self.view_is, c.place_of-place.ensures) at c.syndrome-syn.ensures in
-    fix_corrected c.args.self.now c.args.addr c.in-Fixed.bit c.syndrome-syn.result (sym (ap (λ (set : List ℕ). slice_index set 0) is.turned)) syndrome is.not_bad is.fixed
+    let syn = same_syndrome c.self.inside.words c.args.self.now c.place_of-place.result c.args.addr c.syndrome-syn.result c.self.view_is c.place_of-place.ensures c.syndrome-syn.ensures in
+    fix_corrected c.args.self.now c.args.addr c.in-Fixed.bit c.syndrome-syn.result (sym (ap (λ (set : List ℕ). slice_index set 0) is.turned)) syn is.not_bad is.fixed
 
 pub returns-in-Fixed-clause-written_back : goal.returns-in-Fixed-clause-written_back
 returns-in-Fixed-clause-written_back c =

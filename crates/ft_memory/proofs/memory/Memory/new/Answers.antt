@@ -10,7 +10,7 @@ pub returns : goal.returns
 returns c =
     let made : List ℕ → ℕ → Words = λ values n. record { values = values; histories = replicate n []; past = []; flips = c.args.flips } in
     let words = first_words c.args.ram c.args.image.now in
-    let values : c.deref.result ≡ words = c.deref.ensures.value ∙ c.in_ok-values.ensures in
+    let values : c.deref.result.now ≡ words = c.deref.ensures.value ∙ c.in_ok-values.ensures in
     c.in_ok-new.ensures
     ∙ ap (λ (vs : List ℕ). made vs (length vs)) values
     ∙ ap (made words) (length-map-range_with_len (λ place. word_at c.args.image.now (ram_first + 4 * place)) 0 (c.args.ram / 4))

@@ -1,6 +1,5 @@
-use Rattle.std.proofs.Common.{◌≡◌, ℕ, Bool, List, ap, ◌∙◌, arith}
-use Rattle.lf_model.specs.declared.bus.Line.{Line}
-use Rattle.ft_memory.proofs.LineLemmas.{shown_more, shown_all}
+use Rattle.std.proofs.Common.{◌≡◌, arith}
+use Rattle.ft_memory.proofs.LineLemmas.{shown_more, shown_all, line_made}
 use Rattle.ft_memory.proofs.memory.Memory.read_line.Goals as goal
 
 pub loop-j-preserved : goal.loop-j-preserved
@@ -14,7 +13,4 @@ loop-j-preserved c =
 pub returns : goal.returns
 returns c =
     let all : c.loop-j.j ≡ 8 = omega (arith, c.loop-j-test.false, c.loop-j.auto.j-end) in
-    let made : List ℕ → List ℕ → List Bool → Line = λ words syn bad. record { words = words; syn = syn; bad = bad } in
-    ap (λ (words : List ℕ). made words c.loop-j.syn c.loop-j.bad) (shown_all c.loop-j.invariant.0 all)
-    ∙ ap (λ (syn : List ℕ). made _ syn c.loop-j.bad) (shown_all c.loop-j.invariant.1 all)
-    ∙ ap (made _ _) (shown_all c.loop-j.invariant.2 all)
+    line_made (shown_all c.loop-j.invariant.0 all) (shown_all c.loop-j.invariant.1 all) (shown_all c.loop-j.invariant.2 all)

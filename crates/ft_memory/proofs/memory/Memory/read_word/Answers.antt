@@ -2,7 +2,7 @@ use Rattle.std.proofs.Common.{sym, ◌≡◌, ◌∙◌}
 use Rattle.coded_words.specs.Words.{word_in}
 use Rattle.coded_words.proofs.AnswerLemmas as answers
 use Rattle.ram_words.specs.Ram.{place_of}
-use Rattle.ft_memory.proofs.ReadLemmas.{good_read, bad_read}
+use Rattle.ft_memory.proofs.ReadLemmas.{same_syndrome, good_read, bad_read}
 use Rattle.ft_memory.proofs.WriteLemmas.{place_within}
 use Rattle.ft_memory.proofs.memory.Memory.read_word.Goals as goal
 
@@ -19,8 +19,8 @@ pub returns-in-Fixed : goal.returns-in-Fixed
 returns-in-Fixed c =
     let answer = rw (c.self.view_is, c.place_of-place.ensures) at c.in-Fixed.ensures.answer in
     let is = answers.fixed_answer (word_in c.args.self.now (place_of c.args.addr)) c.in-Fixed.value c.in-Fixed.field-1 (sym answer) in
-    let syndrome = rw (c.self.view_is, c.place_of-place.ensures) at c.syndrome.ensures in
-    good_read c.args.self.now c.args.addr c.in-Fixed.value c.syndrome.result is.value syndrome is.not_bad
+    let syn = same_syndrome c.self.inside.words c.args.self.now c.place_of-place.result c.args.addr c.syndrome.result c.self.view_is c.place_of-place.ensures c.syndrome.ensures in
+    good_read c.args.self.now c.args.addr c.in-Fixed.value c.syndrome.result is.value syn is.not_bad
 
 pub returns-in-Bad : goal.returns-in-Bad
 returns-in-Bad c =

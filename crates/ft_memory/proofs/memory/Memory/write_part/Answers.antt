@@ -1,4 +1,5 @@
 use Rattle.std.proofs.Common.{◌≡◌, ◌^◌, ◌<◌, ℕ, List, length, sym, ap, ◌∙◌, rules}
+use Rattle.std.proofs.lemmas.Result.{err_from_is_err_and}
 use Rattle.coded_words.specs.Words.{Words, written}
 use Rattle.lf_model.specs.Bus.Words.{word_of}
 use Rattle.lf_model.specs.Flips.How.{ByPartStore}
@@ -10,20 +11,21 @@ use Rattle.ft_memory.proofs.memory.Memory.write_part.Goals as goal
 pub returns-in_err-got-clause-answer : goal.returns-in_err-got-clause-answer
 returns-in_err-got-clause-answer c =
     let m = c.args.self.now in
-    let is = lost_answer m (word_of c.args.addr) c.in_err-got.field-0 (rw c.word_of-word.ensures at c.in_err-got.ensures) in
-    c.from_residual.ensures ∙ part_bad m c.args.addr c.in_err-got.field-0.addr c.in_err-got.field-0.syn is.addr_is is.syndrome is.bad
+    let is = lost_answer m (word_of c.args.addr) c.in_err-got.field-0.0 (rw c.word_of-word.ensures at c.in_err-got.ensures) in
+    let p = err_from_is_err_and c.from_residual.result c.from_residual.ensures.1 in
+    rw (p.1, p.2) (part_bad m c.args.addr c.in_err-got.field-0.0.addr c.in_err-got.field-0.0.syn is.addr_is is.syn is.bad)
 
 pub returns-in_err-got-clause-stored : goal.returns-in_err-got-clause-stored
 returns-in_err-got-clause-stored c =
     let m = c.args.self.now in
-    let is = lost_answer m (word_of c.args.addr) c.in_err-got.field-0 (rw c.word_of-word.ensures at c.in_err-got.ensures) in
+    let is = lost_answer m (word_of c.args.addr) c.in_err-got.field-0.0 (rw c.word_of-word.ensures at c.in_err-got.ensures) in
     part_lost m c.args.addr c.args.len c.args.v c.requires.part is.bad
 
 pub returns-clause-answer : goal.returns-clause-answer
 returns-clause-answer c =
     let m = c.args.self.now in
     let is = good_answer m (word_of c.args.addr) c.in_ok-got.got (rw c.word_of-word.ensures at c.in_ok-got.ensures) in
-    part_good m c.args.addr c.in_ok-got.got.syn is.syndrome is.not_bad
+    part_good m c.args.addr c.in_ok-got.got.syn is.syn is.not_bad
 
 pub returns-clause-stored : goal.returns-clause-stored
 returns-clause-stored c =
