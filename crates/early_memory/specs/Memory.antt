@@ -1,6 +1,6 @@
 -- Coded RAM as the list of its cells, one for each word from the first address of RAM on, and what it holds at the start.
-use Rattle.std.specs.Prelude.{◌≡◌, ℕ, ◌-◌, ◌*◌, ◌/◌, ◌%◌, List, take, drop, length, All, IsTrue, slice_index_or}
-use Rattle.lf_model.specs.Start.{ram_first, is_in_ram, word_at}
+use Rattle.std.specs.Prelude.{◌≡◌, ℕ, ◌*◌, ◌%◌, List, take, drop, length, IsTrue, slice_index_or}
+use Rattle.lf_model.specs.Start.{is_in_ram, word_at}
 use Rattle.lf_model.specs.declared.image.Image.{Image}
 use Rattle.early_memory.specs.Cells.{CellState, fresh}
 pub use Rattle.ram_words.specs.Ram.{place_of, IsInRam}

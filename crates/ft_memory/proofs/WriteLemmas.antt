@@ -1,11 +1,11 @@
 -- How part stores, atomics and fixes write a word, and what they answer.
-use Rattle.std.proofs.Common.{◌≡◌, ℕ, ◌%◌, ◌^◌, ◌<◌, IsTrue, Bool, true, false, cond, List, length, slice_index, slice_set, Some, None, Ok, Err, refl, sym, ap, ap₂, ◌∙◌, subst, arith}
+use Rattle.std.proofs.Common.{◌≡◌, ℕ, ◌%◌, ◌^◌, ◌<◌, IsTrue, Bool, true, false, cond, List, length, slice_index, slice_set, Some, None, Ok, Err, sym, ap, ap₂, ◌∙◌, arith}
 use Rattle.std.proofs.lemmas.Bool.{lt-ltb}
 use Rattle.std.proofs.lemmas.Bool.Decides.{nat_tests}
 use Rattle.std.proofs.lemmas.List.{get_or-set_same, set-get_or}
 use Rattle.coded_words.specs.Words.{Words, written}
 use Rattle.lf_model.specs.Bus.Words.{word_of, write_of}
-use Rattle.lf_model.specs.Flips.{How, Moment, turned_bits, is_bad_word, is_fixed_word}
+use Rattle.lf_model.specs.Flips.{Moment, turned_bits, is_bad_word, is_fixed_word}
 use Rattle.lf_model.specs.Flips.How.{Whole, ByPartStore, ByAtomic, ByFix}
 use Rattle.lf_model.specs.declared.bus.TurnKind.TheVariants as turns
 use Rattle.ram_words.specs.Parts.{is_part, merged, HasMergedBytes}

@@ -1,4 +1,4 @@
-use Rattle.std.proofs.Common.{◌^◌, ◌<◌, arith, rules}
+use Rattle.std.proofs.Common.{rules}
 use Rattle.ft_memory.proofs.WriteLemmas.{merged-whole}
 use Rattle.ft_memory.proofs.memory.exchanged_word.Goals as goal
 

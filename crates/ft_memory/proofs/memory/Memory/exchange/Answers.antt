@@ -1,4 +1,4 @@
-use Rattle.std.proofs.Common.{◌≡◌, ◌∙◌}
+use Rattle.std.proofs.Common.{◌∙◌}
 use Rattle.lf_model.specs.Bus.Words.{word_of}
 use Rattle.ft_memory.proofs.ReadLemmas.{good_answer, lost_answer}
 use Rattle.ft_memory.proofs.WriteLemmas.{atomic_lost, atomic_made}

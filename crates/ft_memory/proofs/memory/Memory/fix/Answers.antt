@@ -1,4 +1,4 @@
-use Rattle.std.proofs.Common.{◌≡◌, ℕ, List, slice_index, sym, ap, ◌∙◌}
+use Rattle.std.proofs.Common.{ℕ, List, slice_index, sym, ap, ◌∙◌}
 use Rattle.std.proofs.lemmas.List.{length-set}
 use Rattle.coded_words.specs.Words.{Words, word_in}
 use Rattle.coded_words.proofs.AnswerLemmas as answers

@@ -1,4 +1,4 @@
-use Rattle.std.proofs.Common.{sym, ◌≡◌, ◌∙◌}
+use Rattle.std.proofs.Common.{sym}
 use Rattle.coded_words.specs.Words.{word_in}
 use Rattle.coded_words.proofs.AnswerLemmas as answers
 use Rattle.ram_words.specs.Ram.{place_of}

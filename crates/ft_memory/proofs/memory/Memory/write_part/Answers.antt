@@ -1,9 +1,7 @@
-use Rattle.std.proofs.Common.{◌≡◌, ◌^◌, ◌<◌, ℕ, List, length, sym, ap, ◌∙◌, rules}
+use Rattle.std.proofs.Common.{◌^◌, ◌<◌, ap, ◌∙◌, rules}
 use Rattle.std.proofs.lemmas.Result.{err_from_is_err_and}
-use Rattle.coded_words.specs.Words.{Words, written}
+use Rattle.coded_words.specs.Words.{Words}
 use Rattle.lf_model.specs.Bus.Words.{word_of}
-use Rattle.lf_model.specs.Flips.How.{ByPartStore}
-use Rattle.ram_words.specs.Ram.{place_of}
 use Rattle.ft_memory.proofs.ReadLemmas.{good_answer, lost_answer}
 use Rattle.ft_memory.proofs.WriteLemmas.{word_within, part_lost, part_made, part_good, part_bad, part_bytes}
 use Rattle.ft_memory.proofs.memory.Memory.write_part.Goals as goal
