@@ -1,0 +1,113 @@
+-- A text that goes to a sink piece by piece: what several calls add to it, one after another.
+use Rattle.std.proofs.Common.{◌≡◌, ℕ, ◌+◌, ◌<◌, ◌≤◌, Bool, true, false, List, [], ◌∷◌, ◌++◌, length, take, Option, Some, None, refl, sym, ap, ◌∙◌, append_assoc, length-append, arith}
+use Rattle.std.proofs.lemmas.List.{append-nil}
+use Rattle.lf_io.specs.Count.{Rose}
+use Rattle.lf_io.specs.Taken.{Takes, TakesNothing, TakesPrefix}
+use Rattle.report_text.specs.Written.{Progress, Passed, CutOff, GoesOn, Writes}
+
+-- ---- what a sink took, in two calls
+
+takes_then : (old mid new : Option (List ℕ)) (first second : List ℕ) → Takes old mid first → Takes mid new second → Takes old new (first ++ second)
+takes_then None mid new first second h k = tt
+takes_then (Some bytes) mid new first second h k =
+    let more = rw h at k in more ∙ ap Some (append_assoc bytes first second)
+
+nothing_then : (old mid new : Option (List ℕ)) → TakesNothing old mid → TakesNothing mid new → TakesNothing old new
+nothing_then None mid new h k = tt
+nothing_then (Some bytes) mid new h k = rw h at k
+
+takes_then_nothing : (old mid new : Option (List ℕ)) (first : List ℕ) → Takes old mid first → TakesNothing mid new → Takes old new first
+takes_then_nothing None mid new first h k = tt
+takes_then_nothing (Some bytes) mid new first h k = rw h at k
+
+-- a first part and what it leaves, and a second part and what it leaves
+two_parts : (first left second rest waited text more : List ℕ) → first ++ left ≡ waited ++ text → second ++ rest ≡ left ++ more
+    → (first ++ second) ++ rest ≡ waited ++ (text ++ more)
+two_parts first left second rest waited text more one two =
+    append_assoc first second rest ∙ ap (λ (xs : List ℕ). first ++ xs) two ∙ sym (append_assoc first left more)
+    ∙ ap (λ (xs : List ℕ). xs ++ more) one ∙ append_assoc waited text more
+
+passed_then : (a b c : Progress) (text more : List ℕ) → Passed a.taken b.taken a.waiting b.waiting text
+    → Passed b.taken c.taken b.waiting c.waiting more → Passed a.taken c.taken a.waiting c.waiting (text ++ more)
+passed_then a b c text more first second = record {
+  part = first.part ++ second.part;
+  taken = takes_then a.taken b.taken c.taken first.part second.part first.taken second.taken;
+  whole = two_parts first.part b.waiting second.part c.waiting a.waiting text more first.whole second.whole;
+}
+
+passed_then_cut : (a b c : Progress) (text more : List ℕ) → Passed a.taken b.taken a.waiting b.waiting text
+    → CutOff b.taken c.taken b.waiting more → CutOff a.taken c.taken a.waiting (text ++ more)
+passed_then_cut a b c text more first second = record {
+  part = first.part ++ second.part;
+  lost = second.lost;
+  taken = takes_then a.taken b.taken c.taken first.part second.part first.taken second.taken;
+  whole = two_parts first.part b.waiting second.part second.lost a.waiting text more first.whole second.whole;
+  some_lost = second.some_lost;
+}
+
+cut_then_nothing : (a b c : Progress) (text more : List ℕ) → CutOff a.taken b.taken a.waiting text → TakesNothing b.taken c.taken
+    → CutOff a.taken c.taken a.waiting (text ++ more)
+cut_then_nothing a b c text more first second =
+    let some = first.some_lost in
+    record {
+      part = first.part;
+      lost = first.lost ++ more;
+      taken = takes_then_nothing a.taken b.taken c.taken first.part first.taken second;
+      whole = sym (append_assoc first.part first.lost more) ∙ ap (λ (xs : List ℕ). xs ++ more) first.whole ∙ append_assoc a.waiting text more;
+      some_lost = omega (arith, some, length-append first.lost more);
+    }
+
+rose_later : (before mid after : ℕ) → Rose before mid → mid ≤ after → Rose before after
+rose_later before mid after rose falls = omega arith
+
+rose_earlier : (before mid after : ℕ) → before ≤ mid → Rose mid after → Rose before after
+rose_earlier before mid after falls rose = omega arith
+
+goes_on_then : (p q r : Bool) (a b c : Progress) (text more : List ℕ) → a.faults ≤ b.faults → b.faults ≤ c.faults
+    → GoesOn p q a b text → GoesOn q r b c more → GoesOn p r a c (text ++ more)
+goes_on_then false false false a b c text more f g first second = passed_then a b c text more first second
+goes_on_then false false true a b c text more f g first second =
+    (passed_then_cut a b c text more first second.0, rose_earlier a.faults b.faults c.faults f second.1)
+goes_on_then false true true a b c text more f g first second =
+    (cut_then_nothing a b c text more first.0 second, rose_later a.faults b.faults c.faults first.1 g)
+goes_on_then true true true a b c text more f g first second = nothing_then a.taken b.taken c.taken first second
+goes_on_then p true false a b c text more f g first second = absurd second
+goes_on_then true false r a b c text more f g first second = absurd first
+
+-- two texts, one written behind the other
+pub writes_then : {a b c : Progress} {text more : List ℕ} → Writes a b text → Writes b c more → Writes a c (text ++ more)
+writes_then {a} {b} {c} {text} {more} first second =
+    let f = first.never_falls in
+    let g = second.never_falls in
+    record {
+      never_falls = omega (arith, f, g);
+      goes_on = goes_on_then a.failed b.failed c.failed a b c text more f g first.goes_on second.goes_on;
+    }
+
+-- ---- a text that is put into the piece
+
+takes_nothing : (old : Option (List ℕ)) → Takes old old []
+takes_nothing None = tt
+takes_nothing (Some bytes) = ap Some (sym (append-nil bytes))
+
+stays : (old : Option (List ℕ)) → TakesNothing old old
+stays None = tt
+stays (Some bytes) = refl
+
+put_on : (failed : Bool) (taken : Option (List ℕ)) (faults : ℕ) (waited waits text : List ℕ) → waits ≡ waited ++ text
+    → GoesOn failed failed (record { taken = taken; faults = faults; waiting = waited; failed = failed })
+    (record { taken = taken; faults = faults; waiting = waits; failed = failed }) text
+put_on false taken faults waited waits text e = record { part = []; taken = takes_nothing taken; whole = e }
+put_on true taken faults waited waits text e = stays taken
+
+pub puts : (failed : Bool) (taken : Option (List ℕ)) (faults : ℕ) (waited waits text : List ℕ) → waits ≡ waited ++ text
+    → Writes (record { taken = taken; faults = faults; waiting = waited; failed = failed })
+    (record { taken = taken; faults = faults; waiting = waits; failed = failed }) text
+puts failed taken faults waited waits text e =
+    record { never_falls = omega arith; goes_on = put_on failed taken faults waited waits text e }
+
+-- a line that is put into the piece once there is room for it
+pub line_put : (a : Progress) (failed : Bool) (taken : Option (List ℕ)) (faults : ℕ) (waited waits text : List ℕ)
+    → Writes a (record { taken = taken; faults = faults; waiting = waited; failed = failed }) [] → waits ≡ waited ++ text
+    → Writes a (record { taken = taken; faults = faults; waiting = waits; failed = failed }) text
+line_put a failed taken faults waited waits text made e = writes_then made (puts failed taken faults waited waits text e)
