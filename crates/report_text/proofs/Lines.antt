@@ -1,4 +1,4 @@
--- The lines of transfers, one written after another, and a line of words with another byte behind the last.
+-- The lines of a list, the line of an item and those after it, and a line of words with another byte behind the last.
 use Rattle.std.proofs.Common.{◌≡◌, ℕ, ◌+◌, ◌<◌, List, [], ◌∷◌, ◌++◌, length, get_or, drop, Option, Bool, true, false, if◌then◌else◌, refl, sym, ap, ◌∙◌, append_assoc, add-one}
 use Rattle.std.proofs.Math.Seq.{drop-cons}
 use Rattle.std.proofs.lemmas.List.{append-nil}
@@ -7,14 +7,11 @@ use Rattle.std.specs.List.{flat_map}
 use Rattle.std.specs.Option.{option_map_or}
 use Rattle.lf_model.specs.declared.bus.Transfer.{Transfer}
 use Rattle.lf_model.specs.declared.trace.CoreResult.{CoreResult}
+use Rattle.lf_model.specs.declared.trace.Fate.{Fate}
 use Rattle.lf_model.specs.declared.trace.Op.{Op}
 use Rattle.lf_model.specs.Texts.{space, line_feed}
-use Rattle.lf_model.specs.Report.{word_field, words_text}
+use Rattle.lf_model.specs.Report.{word_field, words_text, fate_line, fate_lines, core_lines, cores_lines}
 use Rattle.lf_model.specs.TransferLines.{has_entry, length_of, transfer_line, lines_of}
-
--- one more line is written
-written : (before line rest after left whole : List ℕ) → line ++ rest ≡ left → before ++ left ≡ whole → after ≡ before ++ line → after ++ rest ≡ whole
-written before line rest after left whole here e put = rw put (append_assoc before line rest ∙ ap (λ (more : List ℕ). before ++ more) here ∙ e)
 
 -- an item and those after it
 item_on : {X : Type 0} (xs : List X) (i : ℕ) (d : X) → i < length xs → get_or xs i d ∷ drop (i + 1) xs ≡ drop i xs
@@ -28,18 +25,28 @@ chosen : (b : Bool) (cores : List CoreResult) (entries : List Op) (t : Transfer)
 chosen true cores entries t ts = refl
 chosen false cores entries t ts = refl
 
-pub transfers_step : (before after whole : List ℕ) (cores : List CoreResult) (entries later : List Op) (transfers : List Transfer) (i len : ℕ) (d : Transfer)
+pub transfers_on : (cores : List CoreResult) (entries later : List Op) (transfers : List Transfer) (i len : ℕ) (d : Transfer)
     → i < length transfers
     → len ≡ (if has_entry cores (get_or transfers i d) then option_map_or length_of (slice_get entries 0) 0 else 0)
     → later ≡ (if has_entry cores (get_or transfers i d) then drop 1 entries else entries)
-    → before ++ lines_of cores entries (drop i transfers) ≡ whole → after ≡ before ++ transfer_line len (get_or transfers i d)
-    → after ++ lines_of cores later (drop (i + 1) transfers) ≡ whole
-transfers_step before after whole cores entries later transfers i len d within long left e put =
+    → transfer_line len (get_or transfers i d) ++ lines_of cores later (drop (i + 1) transfers) ≡ lines_of cores entries (drop i transfers)
+transfers_on cores entries later transfers i len d within long left =
     let t : Transfer = get_or transfers i d in
     let ts : List Transfer = drop (i + 1) transfers in
-    let here : transfer_line len t ++ lines_of cores later ts ≡ lines_of cores entries (drop i transfers) =
-    rw (long, left) (chosen (has_entry cores t) cores entries t ts ∙ ap (lines_of cores entries) (item_on transfers i d within)) in
-    written before (transfer_line len t) (lines_of cores later ts) after (lines_of cores entries (drop i transfers)) whole here e put
+    rw (long, left) (chosen (has_entry cores t) cores entries t ts ∙ ap (lines_of cores entries) (item_on transfers i d within))
+
+-- the line of an item and those after it
+pub lines_on : {X : Type 0} (f : X → List ℕ) (xs : List X) (i : ℕ) (d : X) → i < length xs
+    → f (get_or xs i d) ++ flat_map f (drop (i + 1) xs) ≡ flat_map f (drop i xs)
+lines_on f xs i d within = ap (flat_map f) (item_on xs i d within)
+
+pub fates_on : (fates : List Fate) (i : ℕ) (d : Fate) → i < length fates
+    → fate_line i (get_or fates i d) ++ fate_lines (i + 1) (drop (i + 1) fates) ≡ fate_lines i (drop i fates)
+fates_on fates i d within = ap (fate_lines i) (item_on fates i d within)
+
+pub cores_on : (cores : List CoreResult) (k : ℕ) (d : CoreResult) → k < length cores
+    → core_lines k (get_or cores k d) ++ cores_lines (k + 1) (drop (k + 1) cores) ≡ cores_lines k (drop k cores)
+cores_on cores k d within = ap (cores_lines k) (item_on cores k d within)
 
 -- words are those before the last and the last
 pub words_last : (front : List (Option ℕ)) (last : Option ℕ)

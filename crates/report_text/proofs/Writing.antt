@@ -1,6 +1,7 @@
 -- A text that goes to a sink piece by piece: what several calls add to it, one after another.
-use Rattle.std.proofs.Common.{◌≡◌, ℕ, ◌+◌, ◌<◌, ◌≤◌, Bool, true, false, List, [], ◌∷◌, ◌++◌, length, take, Option, Some, None, refl, sym, ap, ◌∙◌, append_assoc, length-append, arith}
-use Rattle.std.proofs.lemmas.List.{append-nil}
+use Rattle.std.proofs.Common.{◌≡◌, ℕ, ◌+◌, ◌<◌, ◌≤◌, Bool, true, false, List, [], ◌∷◌, ◌++◌, length, take, drop, Option, Some, None, refl, sym, ap, subst, ◌∙◌, append_assoc, length-append, length-drop, arith}
+use Rattle.std.proofs.Math.Seq.{take-append_seam}
+use Rattle.std.proofs.lemmas.List.{append-nil, take-append-drop}
 use Rattle.lf_io.specs.Count.{Rose}
 use Rattle.lf_io.specs.Taken.{Takes, TakesNothing, TakesPrefix}
 use Rattle.report_text.specs.Written.{Progress, Passed, CutOff, GoesOn, Writes}
@@ -84,7 +85,7 @@ writes_then {a} {b} {c} {text} {more} first second =
       goes_on = goes_on_then a.failed b.failed c.failed a b c text more f g first.goes_on second.goes_on;
     }
 
--- ---- a text that is put into the piece
+-- ---- what waits is written, or was lost before
 
 takes_nothing : (old : Option (List ℕ)) → Takes old old []
 takes_nothing None = tt
@@ -93,6 +94,36 @@ takes_nothing (Some bytes) = ap Some (sym (append-nil bytes))
 stays : (old : Option (List ℕ)) → TakesNothing old old
 stays None = tt
 stays (Some bytes) = refl
+
+pub still_failed : (failed : Bool) (taken : Option (List ℕ)) (faults : ℕ) (waited : List ℕ) → failed ≡ true
+    → Writes (record { taken = taken; faults = faults; waiting = waited; failed = failed })
+    (record { taken = taken; faults = faults; waiting = []; failed = true }) []
+still_failed failed taken faults waited e = rw e (record { never_falls = omega arith; goes_on = stays taken })
+
+pub piece_taken : (failed : Bool) (old new : Option (List ℕ)) (before after : ℕ) (waited : List ℕ) → failed ≡ false → before ≤ after
+    → Takes old new waited
+    → Writes (record { taken = old; faults = before; waiting = waited; failed = failed })
+    (record { taken = new; faults = after; waiting = []; failed = false }) []
+piece_taken failed old new before after waited e falls taken =
+    rw e (record { never_falls = falls; goes_on = record { part = waited; taken = taken; whole = refl } })
+
+cut_piece : (old new : Option (List ℕ)) (waited : List ℕ) → TakesPrefix old new waited → CutOff old new waited []
+cut_piece old new waited (n, short, taken) = record {
+  part = take n waited;
+  lost = drop n waited;
+  taken = taken;
+  whole = take-append-drop n waited ∙ sym (append-nil waited);
+  some_lost = omega (arith, short, length-drop n waited);
+}
+
+pub piece_cut : (failed : Bool) (old new : Option (List ℕ)) (before after : ℕ) (waited : List ℕ) → failed ≡ false → before ≤ after
+    → TakesPrefix old new waited → Rose before after
+    → Writes (record { taken = old; faults = before; waiting = waited; failed = failed })
+    (record { taken = new; faults = after; waiting = []; failed = true }) []
+piece_cut failed old new before after waited e falls prefix rose =
+    rw e (record { never_falls = falls; goes_on = (cut_piece old new waited prefix, rose) })
+
+-- ---- a text that is put into the piece
 
 put_on : (failed : Bool) (taken : Option (List ℕ)) (faults : ℕ) (waited waits text : List ℕ) → waits ≡ waited ++ text
     → GoesOn failed failed (record { taken = taken; faults = faults; waiting = waited; failed = failed })
@@ -111,3 +142,79 @@ pub line_put : (a : Progress) (failed : Bool) (taken : Option (List ℕ)) (fault
     → Writes a (record { taken = taken; faults = faults; waiting = waited; failed = failed }) [] → waits ≡ waited ++ text
     → Writes a (record { taken = taken; faults = faults; waiting = waits; failed = failed }) text
 line_put a failed taken faults waited waits text made e = writes_then made (puts failed taken faults waited waits text e)
+
+-- ---- lines of a list, one after another
+
+-- what is written so far, and the lines that are left
+pub record Behind (a b : Progress) (left whole : List ℕ) : Type 0 where
+  pub done : List ℕ
+  pub written : Writes a b done
+  pub rest : done ++ left ≡ whole
+
+nothing_more : (a : Progress) → Writes a a []
+nothing_more a = puts a.failed a.taken a.faults a.waiting a.waiting [] (sym (append-nil a.waiting))
+
+pub begins : (a : Progress) (whole : List ℕ) → Behind a a whole whole
+begins a whole = record { done = []; written = nothing_more a; rest = refl }
+
+pub behind_more : {a b c : Progress} {line later left whole : List ℕ} → Behind a b left whole → Writes b c line → line ++ later ≡ left
+    → Behind a c later whole
+behind_more {a} {b} {c} {line} {later} {left} {whole} inv next here = record {
+  done = inv.done ++ line;
+  written = writes_then inv.written next;
+  rest = append_assoc inv.done line later ∙ ap (λ (more : List ℕ). inv.done ++ more) here ∙ inv.rest;
+}
+
+pub ends : {a b : Progress} {left whole : List ℕ} → left ≡ [] → Behind a b left whole → Writes a b whole
+ends {a} {b} {left} {whole} none inv =
+    let all : inv.done ≡ whole = sym (append-nil inv.done) ∙ ap (λ (more : List ℕ). inv.done ++ more) (sym none) ∙ inv.rest in
+    subst (λ (text : List ℕ). Writes a b text) all inv.written
+
+-- ---- the whole text
+
+reaches : (a b c : Progress) (text : List ℕ) → Writes a b text → Writes b c [] → Writes a c text
+reaches a b c text first second = subst (λ (t : List ℕ). Writes a c t) (append-nil text) (writes_then first second)
+
+cut_of : (p q : Bool) (a c : Progress) (text : List ℕ) → p ≡ false → q ≡ true → GoesOn p q a c text
+    → CutOff a.taken c.taken a.waiting text × Rose a.faults c.faults
+cut_of false true a c text e f on = on
+cut_of true q a c text e f on = absurd cc
+cut_of p false a c text e f on = absurd cc
+
+passed_of : (p q : Bool) (a c : Progress) (text : List ℕ) → p ≡ false → q ≡ false → GoesOn p q a c text
+    → Passed a.taken c.taken a.waiting c.waiting text
+passed_of false false a c text e f on = on
+passed_of true q a c text e f on = absurd cc
+passed_of p true a c text e f on = absurd cc
+
+prefix_of : (old new : Option (List ℕ)) (waited text : List ℕ) → waited ≡ [] → CutOff old new waited text → TakesPrefix old new text
+prefix_of old new waited text nothing cut =
+    let some = cut.some_lost in
+    let all : cut.part ++ cut.lost ≡ text = cut.whole ∙ ap (λ (xs : List ℕ). xs ++ text) nothing in
+    let front : take (length cut.part) text ≡ cut.part = ap (take (length cut.part)) (sym all) ∙ take-append_seam cut.part cut.lost in
+    let long : length (cut.part ++ cut.lost) ≡ length text = ap (λ (xs : List ℕ). length xs) all in
+    (length cut.part, omega (arith, some, long, length-append cut.part cut.lost), subst (λ (xs : List ℕ). Takes old new xs) (sym front) cut.taken)
+
+-- a text whose first write failed is cut off
+pub text_cut : (a b c : Progress) (text : List ℕ) → a.waiting ≡ [] → a.failed ≡ false → Writes a b text → Writes b c [] → c.failed ≡ true
+    → TakesPrefix a.taken c.taken text
+text_cut a b c text nothing fresh first second failed =
+    prefix_of a.taken c.taken a.waiting text nothing
+    (cut_of a.failed c.failed a c text fresh failed (reaches a b c text first second).goes_on).0
+
+pub text_cause : (a b c : Progress) (text : List ℕ) → a.failed ≡ false → Writes a b text → Writes b c [] → c.failed ≡ true
+    → Rose a.faults c.faults
+text_cause a b c text fresh first second failed =
+    (cut_of a.failed c.failed a c text fresh failed (reaches a b c text first second).goes_on).1
+
+-- a text of which no write failed, and nothing waits, was taken
+pub text_taken : (a b c : Progress) (text : List ℕ) → a.waiting ≡ [] → a.failed ≡ false → Writes a b text → Writes b c [] → c.waiting ≡ []
+    → c.failed ≡ false → Takes a.taken c.taken text
+text_taken a b c text nothing fresh first second empty whole =
+    let passed = passed_of a.failed c.failed a c text fresh whole (reaches a b c text first second).goes_on in
+    let all : passed.part ≡ text =
+    sym (append-nil passed.part) ∙ ap (λ (xs : List ℕ). passed.part ++ xs) (sym empty) ∙ passed.whole ∙ ap (λ (xs : List ℕ). xs ++ text) nothing in
+    subst (λ (xs : List ℕ). Takes a.taken c.taken xs) all passed.taken
+
+pub text_falls : (a b c : Progress) (text : List ℕ) → Writes a b text → Writes b c [] → a.faults ≤ c.faults
+text_falls a b c text first second = (reaches a b c text first second).never_falls

@@ -29,15 +29,13 @@ impl Stream {
         }
     }
 
-    /// Writes the bytes that wait.
+    /// Writes the bytes that wait. After a fault they are dropped.
     pub fn flush<K: Sink>(&mut self, out: &mut K)
         ensures written { Writes (progress (K.taken out.old) (K.faults out.old) self.old)
             (progress (K.taken out.new) (K.faults out.new) self.new) [] }
         ensures empty { self.new.piece.items ≡ [] }
     {
-        if !self.has_failed {
-            self.has_failed = put_all(out, self.piece.as_slice()).is_err();
-        }
+        self.has_failed = has_failed_with(out, &self.piece, self.has_failed);
         self.piece.clear();
     }
 
@@ -78,5 +76,20 @@ impl Stream {
         ensures err { OnErr result (self.now.has_failed ≡ true) }
     {
         if self.has_failed { Err(Failed) } else { Ok(()) }
+    }
+}
+
+/// Writes a piece, unless a write failed before, and tells whether one has failed by now.
+fn has_failed_with<K: Sink>(out: &mut K, piece: &Piece, has_failed: bool) -> bool
+    ensures written { Writes
+        (record { taken = K.taken out.old; faults = K.faults out.old; waiting = piece.now.items; failed = has_failed })
+        (record { taken = K.taken out.new; faults = K.faults out.new; waiting = []; failed = result }) [] }
+{
+    if has_failed {
+        return true;
+    }
+    match put_all(out, piece.as_slice()) {
+        Ok(()) => false,
+        Err(_) => true,
     }
 }

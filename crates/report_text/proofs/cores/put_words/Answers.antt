@@ -1,4 +1,3 @@
-use Rattle.std.proofs.Common.{arith}
 use Rattle.report_text.proofs.Lines.{words_put}
 use Rattle.report_text.proofs.cores.put_words.Goals as goal
 
