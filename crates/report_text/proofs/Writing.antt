@@ -172,6 +172,9 @@ ends {a} {b} {left} {whole} none inv =
 
 -- ---- the whole text
 
+pub written_as : {a b : Progress} {text whole : List ℕ} → text ≡ whole → Writes a b text → Writes a b whole
+written_as {a} {b} e written = subst (λ (t : List ℕ). Writes a b t) e written
+
 reaches : (a b c : Progress) (text : List ℕ) → Writes a b text → Writes b c [] → Writes a c text
 reaches a b c text first second = subst (λ (t : List ℕ). Writes a c t) (append-nil text) (writes_then first second)
 

@@ -17,6 +17,7 @@ use cores::write_cores;
 use lf_io::{Failed, Sink};
 use lf_model::trace::Trace;
 use outcome::{write_ahb, write_flips, write_order, write_watch};
+pub use report_reader::{ReportErr, read_report};
 use stream::Stream;
 use transfers::write_transfers;
 

@@ -6,4 +6,4 @@ pub loop-k-init : goal.loop-k-init
 loop-k-init g c = begins _ _
 
 pub loop-k-preserved : goal.loop-k-preserved
-loop-k-preserved g c = behind_more c.loop-k.invariant c.write_core.ensures.written (cores_on _ _ _ c.loop-k-test.true)
+loop-k-preserved g c = behind_more c.loop-k.invariant c.write_core.ensures.written (cores_on _ _ _ c.loop-k-test.true c.index-cores-k.is)
