@@ -12,7 +12,7 @@ use Rattle.lf_model.specs.declared.trace.Trace.{Trace}
 use Rattle.machine_play.specs.Played.{IsPlayed}
 use Rattle.leon_main.proofs.SettledLemmas.{settled}
 use Rattle.leon_main.specs.Accepted.{AreParts, IsFirstRefusal}
-use Rattle.leon_main.specs.Call.{IsReportOf, IsFault, IsOutcome, status_of, text_of, IsFaultless, IsHindered, Tells, Reports, Decides}
+use Rattle.leon_main.specs.Call.{IsReportOf, IsFault, IsOutcome, status_of, text_of, IsFaultless, IsHindered, Tells, Refuses, Reports, Decides}
 use Rattle.leon_main.specs.Ends.{status_of_cores}
 use Rattle.leon_main.specs.Faults as faults
 use Rattle.leon_main.specs.Words.{FileNames, Request, Play, Codes, request_of}
@@ -64,7 +64,7 @@ by_report words files old new trace status cause own = record {
     played_as : (setup : Setup) → cause.setup ≡ setup → Reports status old new setup
     played_as setup same = elim own [
       | inl told ↦ inl (trace, subst (λ (s : Setup). IsPlayed s trace) same cause.played, told.0, told.1)
-      | inr hindered ↦ inr hindered
+      | inr fault ↦ inr (inr fault)
     ]
 
 by_check_bits : (words : List (List ℕ)) (files : FileMap) (old new : Option (List ℕ)) (word status : ℕ) → request_of words ≡ Some (Codes word)
@@ -91,29 +91,37 @@ by_refusal : (words : List (List ℕ)) (files : FileMap) (old new : Option (List
 by_refusal words files old new names fault status asked refusal own = record {
   usage = λ none. play_not_none (request_of words) names asked none;
   check_bits = λ word codes. play_not_codes (request_of words) names word asked codes;
-  refused = λ others other play more. subst (λ (f : Fault). Tells status old new (faults.status_of f) (faults.line_of f))
-      ((settled names files).one_fault fault other refusal (renamed_refusal words files names others other asked play more)) own;
+  refused = λ others other play more. subst (λ (f : Fault). Refuses status old new f)
+      ((settled names files).one_fault fault other refusal (renamed_refusal words files names others other asked play more)) refuses;
   played = λ others setup events play parts. absurd (
       (settled names files).not_both (setup, events, renamed_parts words files names others setup events asked play parts) (fault, refusal));
 }
+  where
+    refuses : Refuses status old new fault
+    refuses = elim own [
+      | inl told ↦ inl told
+      | inr failed ↦ inr (inr failed)
+    ]
 
-by_hindrance : (words : List (List ℕ)) (files : FileMap) (old new : Option (List ℕ)) (status : ℕ) → IsHindered status → Decides words files old new status
-by_hindrance words files old new status hindered = record {
-  usage = λ none. inr hindered;
-  check_bits = λ word codes. inr hindered;
-  refused = λ names fault play refusal. inr hindered;
-  played = λ names setup events play parts. inr hindered;
+by_hindrance : (words : List (List ℕ)) (files : FileMap) (old new : Option (List ℕ)) (names : FileNames) (status : ℕ) → request_of words ≡ Some (Play names)
+    → IsHindered status → Decides words files old new status
+by_hindrance words files old new names status asked hindered = record {
+  usage = λ none. play_not_none (request_of words) names asked none;
+  check_bits = λ word codes. play_not_codes (request_of words) names word asked codes;
+  refused = λ others fault play refusal. inr hindered;
+  played = λ others setup events play parts. inr hindered;
 }
 
-by_memory : (words : List (List ℕ)) (files : FileMap) (old new : Option (List ℕ)) (status : ℕ) → Tells status old new 7 (faults.line_of Memory) → Decides words files old new status
-by_memory words files old new status (inl told) = by_hindrance words files old new status (inl told.0)
-by_memory words files old new status (inr hindered) = by_hindrance words files old new status hindered
+by_memory : (words : List (List ℕ)) (files : FileMap) (old new : Option (List ℕ)) (names : FileNames) (status : ℕ) → request_of words ≡ Some (Play names)
+    → Tells status old new 7 (faults.line_of Memory) → Decides words files old new status
+by_memory words files old new names status asked (inl told) = by_hindrance words files old new names status asked (inl told.0)
+by_memory words files old new names status asked (inr failed) = by_hindrance words files old new names status asked (inr failed)
 
 by_fault : (words : List (List ℕ)) (files : FileMap) (before after : List ℕ → ℕ) (old new : Option (List ℕ)) (fault : Fault) (status : ℕ)
     → IsFault words (Some files) before after fault → IsFaultless words before after → Tells status old new (faults.status_of fault) (faults.line_of fault)
     → Decides words files old new status
 by_fault words files before after old new Usage status cause faultless own = by_usage words files old new status cause own
-by_fault words files before after old new Memory status cause faultless own = by_memory words files old new status own
+by_fault words files before after old new Memory status cause faultless own = by_memory words files old new cause.0 status cause.1 own
 by_fault words files before after old new (Unread file) status cause faultless own = absurd (faultless cause.0 file cause.1 cause.2.rose)
 by_fault words files before after old new fault status cause faultless own = by_refusal words files old new cause.0 fault status cause.1 cause.2 own
 
@@ -125,20 +133,17 @@ by_outcome words files before after old new (Ok (CheckBits bits)) status cause f
     by_check_bits words files old new cause.0 status cause.1 (subst (λ (b : ℕ). Tells status old new 0 (hex_field line_feed 2 b)) cause.2 own)
 by_outcome words files before after old new (Err fault) status cause faultless own = by_fault words files before after old new fault status cause faultless own
 
--- the status and the text that are told, or the hindrance
-pub tells : (status wanted : ℕ) (old new : Option (List ℕ)) (text : List ℕ) → (status ≢ 7 → status ≢ 8 → (status ≡ wanted) × Takes old new text) → Tells status old new wanted text
+-- the status and the text that are told, or the fault of the sink
+pub tells : (status wanted : ℕ) (old new : Option (List ℕ)) (text : List ℕ) → (status ≢ 8 → (status ≡ wanted) × Takes old new text) → Tells status old new wanted text
 tells status wanted old new text told =
-    elim (cases_eq status 7) [
-      | inl memory ↦ inr (inl memory)
-      | inr no_memory ↦ elim (cases_eq status 8) [
-        | inl fault ↦ inr (inr fault)
-        | inr no_fault ↦ inl (told no_memory no_fault)
-      ]
+    elim (cases_eq status 8) [
+      | inl fault ↦ inr fault
+      | inr no_fault ↦ inl (told no_fault)
     ]
 
 pub decides : (words : List (List ℕ)) (held : Option FileMap) (files : FileMap) (before after : List ℕ → ℕ) (old new : Option (List ℕ)) (outcome : Result Answer Fault) (status : ℕ)
     → held ≡ Some files → IsOutcome words held before after outcome → IsFaultless words before after
-    → (status ≢ 7 → status ≢ 8 → (status ≡ status_of outcome) × Takes old new (text_of outcome)) → Decides words files old new status
+    → (status ≢ 8 → (status ≡ status_of outcome) × Takes old new (text_of outcome)) → Decides words files old new status
 decides words held files before after old new outcome status told cause faultless own =
     by_outcome words files before after old new outcome status (subst (λ (h : Option FileMap). IsOutcome words h before after outcome) told cause) faultless
     (tells status (status_of outcome) old new (text_of outcome) own)

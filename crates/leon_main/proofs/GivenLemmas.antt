@@ -25,9 +25,9 @@ comes_to_usage words held before after (Err fault) none cause = play_not_none (r
 
 -- and are answered by its line
 pub tells_usage : (words : List (List ℕ)) (held : Option FileMap) (before after : List ℕ → ℕ) (old new : Option (List ℕ)) (status : ℕ) → request_of words ≡ None
-    → (status ≢ 7 → status ≢ 8 → IsAnswered words held before after old new status) → Tells status old new 2 (faults.line_of Usage)
+    → (status ≢ 8 → IsAnswered words held before after old new status) → Tells status old new 2 (faults.line_of Usage)
 tells_usage words held before after old new status none answered =
-    tells status 2 old new (faults.line_of Usage) (λ no_memory no_fault.
-    let answer = answered no_memory no_fault in
+    tells status 2 old new (faults.line_of Usage) (λ no_fault.
+    let answer = answered no_fault in
     let usage : answer.outcome ≡ Err Usage = comes_to_usage words held before after answer.outcome none answer.cause in
     (answer.its_status ∙ ap status_of usage, subst (λ (o : Result Answer Fault). Takes old new (text_of o)) usage answer.taken))

@@ -5,3 +5,5 @@ pub mod FileLemmas
 pub mod SettledLemmas
 pub mod DecideLemmas
 pub mod GivenLemmas
+pub mod LineLengths
+pub mod MemoryLemmas

@@ -72,12 +72,12 @@ pub record IsAnswered (words : List (List ℕ)) (held : Option FileMap) (before 
   pub its_status : status ≡ status_of outcome
   pub taken : Takes old new (text_of outcome)
 
--- the sink took a part of the text, or of the line where there was no memory
+-- the sink took a part of the text
 pub record IsCutOff (words : List (List ℕ)) (held : Option FileMap) (before after : List ℕ → ℕ)
     (old new : Option (List ℕ)) : Type 0 where
   pub outcome : Result Answer Fault
   pub cause : IsOutcome words held before after outcome
-  pub part : TakesPrefix old new (text_of outcome) ⊎ TakesPrefix old new (faults.line_of Memory)
+  pub part : TakesPrefix old new (text_of outcome)
 
 -- ---- the answer where the files are told and none of their faults was counted
 
@@ -87,13 +87,18 @@ IsFaultless words before after =
     (names : FileNames) (file : RunFile) → AsksToPlay words names
     → Rose (before (name_in names file)) (after (name_in names file)) → ⊥
 
+-- the status, with its whole text, unless the sink failed
+abbrev pub Tells : ℕ → Option (List ℕ) → Option (List ℕ) → ℕ → List ℕ → Type 0
+Tells status old new wanted text = ((status ≡ wanted) × Takes old new text) ⊎ (status ≡ 8)
+
 -- there was no memory, or the sink failed
 abbrev pub IsHindered : ℕ → Type 0
 IsHindered status = (status ≡ 7) ⊎ (status ≡ 8)
 
--- the status, with its whole text, unless the call was hindered
-abbrev pub Tells : ℕ → Option (List ℕ) → Option (List ℕ) → ℕ → List ℕ → Type 0
-Tells status old new wanted text = ((status ≡ wanted) × Takes old new text) ⊎ IsHindered status
+-- the whole line of a refusal, with its status, unless the call was hindered
+abbrev pub Refuses : ℕ → Option (List ℕ) → Option (List ℕ) → Fault → Type 0
+Refuses status old new fault =
+    ((status ≡ faults.status_of fault) × Takes old new (faults.line_of fault)) ⊎ IsHindered status
 
 -- the whole report of a run of this setup, with the status of its ends, unless the call was hindered
 abbrev pub Reports : ℕ → Option (List ℕ) → Option (List ℕ) → Setup → Type 0
@@ -107,7 +112,7 @@ pub record Decides (words : List (List ℕ)) (files : FileMap) (old new : Option
   pub check_bits : (word : ℕ) → AsksForCodes words word
       → Tells status old new 0 (hex_field line_feed 2 (check_bits word))
   pub refused : (names : FileNames) (fault : Fault) → AsksToPlay words names → IsFirstRefusal names files fault
-      → Tells status old new (faults.status_of fault) (faults.line_of fault)
+      → Refuses status old new fault
   pub played : (names : FileNames) (setup : Setup) (events : List Event) → AsksToPlay words names
       → AreParts names files setup events → Reports status old new setup
 

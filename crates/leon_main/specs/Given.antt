@@ -12,7 +12,7 @@ use Rattle.leon_main.specs.declared.words.WordsErr.TheVariants.{NotText, Memory}
 -- the answer to known words, by its status and what a sink took, as `plain_call` gives it
 pub record Answers (words : List (List ℕ)) (held : Option FileMap) (before after : List ℕ → ℕ)
     (old new : Option (List ℕ)) (status : ℕ) : Type 0 where
-  pub answered : status ≢ 7 → status ≢ 8 → IsAnswered words held before after old new status
+  pub answered : status ≢ 8 → IsAnswered words held before after old new status
   pub memory : status ≡ 7 → Takes old new (faults.line_of fault.Memory)
   pub cut_off : status ≡ 8 → IsCutOff words held before after old new
   pub decides : (files : FileMap) → held ≡ Some files → IsFaultless words before after → Decides words files old new status

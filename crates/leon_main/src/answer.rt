@@ -1,11 +1,14 @@
-ghost use Rattle.std.specs.Prelude.{◌≡◌, IfOk};
+ghost use Rattle.std.specs.Prelude.{◌≡◌, Ok, OnOk, OnErr};
+ghost use Rattle.lf_io.specs.Count.{Rose};
+ghost use Rattle.lf_io.specs.Taken.{Takes, TakesPrefix};
 ghost use Rattle.leon_main.specs.Ends.{is_stop, is_limit, some_end, status_of_cores};
 ghost use Rattle.leon_main.specs.Call.{status_of, text_of};
 
 use crate::fault::Fault;
+use lf_io::{Failed, Sink, put_all};
 use lf_model::trace::{CoreEnd, CoreResult, Trace};
-use report_text::fields::{LINE_FEED, put_hex_field};
-use std::alloc::{AllocError, Global};
+use report_text::fields::{LINE_FEED, Piece, put_hex_field};
+use report_text::write_report;
 
 /// The result of a call.
 #[derive(Debug, Drop)]
@@ -46,12 +49,12 @@ fn status_of_cores(cores: &[CoreResult]) -> u8
 }
 
 /// Two hexadecimal digits, and the end of a line.
-fn check_bits_line(alloc: Global, bits: u8) -> Result<Vec<u8>, AllocError>
-    ensures { IfOk result (λ text. text.items ≡ text_of (Ok (Answer.CheckBits bits))) }
+fn check_bits_line(bits: u8) -> Piece
+    ensures { result.items ≡ text_of (Ok (Answer.CheckBits bits)) }
 {
-    let mut text = Vec::new(alloc);
-    put_hex_field(&mut text, LINE_FEED, 2, u64::from(bits))?;
-    Ok(text)
+    let mut piece = Piece::new();
+    put_hex_field(&mut piece, LINE_FEED, 2, u64::from(bits));
+    piece
 }
 
 /// The exit status of what a call came to.
@@ -65,13 +68,24 @@ pub fn status_of(outcome: &Result<Answer, Fault>) -> u8
     }
 }
 
-/// The report or the line that tells what a call came to.
-pub fn text_of(alloc: Global, outcome: &Result<Answer, Fault>) -> Result<Vec<u8>, AllocError>
-    ensures { IfOk result (λ text. text.items ≡ text_of outcome.now) }
+/// Writes the report or the line that tells what a call came to, and takes no memory.
+pub fn write_text<K: Sink>(outcome: &Result<Answer, Fault>, out: &mut K) -> Result<(), Failed>
+    ensures whole { OnOk result (Takes (K.taken out.old) (K.taken out.new) (text_of outcome.now)) }
+    ensures part { OnErr result (TakesPrefix (K.taken out.old) (K.taken out.new) (text_of outcome.now)) }
+    ensures cause { OnErr result (Rose (K.faults out.old) (K.faults out.new)) }
 {
     match outcome {
-        Ok(Answer::Report(trace)) => report_text::report_of(alloc, trace),
-        Ok(Answer::CheckBits(bits)) => check_bits_line(alloc, *bits),
-        Err(fault) => fault.line(alloc),
+        Ok(Answer::Report(trace)) => write_report(trace, out),
+        Ok(Answer::CheckBits(bits)) => write_line(&check_bits_line(*bits), out),
+        Err(fault) => write_line(&fault.line(), out),
     }
+}
+
+/// Writes a line.
+fn write_line<K: Sink>(line: &Piece, out: &mut K) -> Result<(), Failed>
+    ensures whole { OnOk result (Takes (K.taken out.old) (K.taken out.new) line.now.items) }
+    ensures part { OnErr result (TakesPrefix (K.taken out.old) (K.taken out.new) line.now.items) }
+    ensures cause { OnErr result (Rose (K.faults out.old) (K.faults out.new)) }
+{
+    put_all(out, line.as_slice())
 }

@@ -13,7 +13,7 @@ ghost use Rattle.leon_main.specs.Given.{AnswersGiven};
 ghost use Rattle.leon_main.specs.Reading.{IsCause};
 ghost use Rattle.leon_main.specs.Words.{FileNames, told};
 
-use crate::answer::{Answer, status_of, text_of};
+use crate::answer::{Answer, status_of, write_text};
 use crate::fault::Fault;
 use crate::reading;
 use crate::words::{Command, Names, WordsErr, command_of};
@@ -65,20 +65,15 @@ fn outcome_of<F: Files>(alloc: Global, words: &[String], files: &mut F) -> Resul
 }
 
 /// Writes the text of an outcome, and gives the status.
-fn tell<K: Sink>(alloc: Global, outcome: &Result<Answer, Fault>, out: &mut K) -> u8
-    ensures told { result ≢ 7 → result ≢ 8
+fn tell<K: Sink>(outcome: &Result<Answer, Fault>, out: &mut K) -> u8
+    ensures told { result ≢ 8
         → (result ≡ status_of outcome.now) × Takes (K.taken out.old) (K.taken out.new) (text_of outcome.now) }
-    ensures memory { result ≡ 7 → Takes (K.taken out.old) (K.taken out.new) (line_of Fault.Memory) }
     ensures cut { result ≡ 8 → Rose (K.faults out.old) (K.faults out.new) }
-    ensures part { result ≡ 8 → TakesPrefix (K.taken out.old) (K.taken out.new) (text_of outcome.now)
-        ⊎ TakesPrefix (K.taken out.old) (K.taken out.new) (line_of Fault.Memory) }
+    ensures part { result ≡ 8 → TakesPrefix (K.taken out.old) (K.taken out.new) (text_of outcome.now) }
 {
-    match text_of(alloc, outcome) {
-        Ok(text) => match lf_io::put_all(out, &text) {
-            Ok(()) => status_of(outcome),
-            Err(_) => 8,
-        },
-        Err(_) => tell_memory(out),
+    match write_text(outcome, out) {
+        Ok(()) => status_of(outcome),
+        Err(_) => 8,
     }
 }
 
@@ -107,13 +102,13 @@ pub fn plain_call<F: Files, K: Sink>(
     files: &mut F,
     out: &mut K,
 ) -> u8
-    // A status other than 7 and 8 comes with its cause, and its whole text was taken. The text of a run is the report
-    // of a trace that is a total-store-order execution of the image's code, with that execution's results.
-    ensures answered { result ≢ 7 → result ≢ 8
+    // A status other than 8 comes with its cause, and its whole text was taken. The text of a run is the report of a
+    // trace that is a total-store-order execution of the image's code, with that execution's results.
+    ensures answered { result ≢ 8
         → IsAnswered (map string_bytes words.now) (F.held files.old) (F.faults files.old) (F.faults files.new)
         (K.taken out.old) (K.taken out.new) result }
 
-    // 7 is want of memory, and its line was taken.
+    // 7 is want of memory in reading the files of a run or in the run, and its line was taken.
     ensures memory { result ≡ 7 → Takes (K.taken out.old) (K.taken out.new) (line_of Fault.Memory) }
 
     // 8 is a fault of the sink, which took a part of the text and nothing more.
@@ -132,7 +127,7 @@ pub fn plain_call<F: Files, K: Sink>(
     ensures settled { (names : FileNames) (held : FileMap) → IsSettled names held }
 {
     let outcome = outcome_of(alloc, words, files);
-    tell(alloc, &outcome, out)
+    tell(&outcome, out)
 }
 
 /// Does what the words of a call say, as far as they are known, and answers the program's exit code.
@@ -148,7 +143,7 @@ pub fn exit_code_of<F: Files, K: Sink>(
     ensures answered { AnswersGiven words (F.held files.old) (F.faults files.old) (F.faults files.new)
         (K.taken out.old) (K.taken out.new) (exit_status result) }
 
-    // Words that are not text are answered by `error 2 usage`, unless memory or the sink fails.
+    // Words that are not text are answered by `error 2 usage`, unless the sink fails.
     ensures not_text { words ≡ Err WordsErr.NotText
         → Tells (exit_status result) (K.taken out.old) (K.taken out.new) 2 (line_of Fault.Usage) }
 

@@ -1,14 +1,16 @@
-ghost use Rattle.std.specs.Prelude.{◌≡◌, ◌++◌, codes, IfOk};
+ghost use Rattle.std.specs.Prelude.{◌≡◌, ◌≤◌, ◌++◌, codes, length};
+ghost use Rattle.elf_image.specs.Names.{refusal_name};
 ghost use Rattle.lf_model.specs.Texts.{number, space};
 ghost use Rattle.run_texts.specs.Faults.{word_of};
+ghost use Rattle.run_texts.specs.Keys.{row};
 ghost use Rattle.leon_main.specs.Faults.{read_fault, script_fault, schedule_fault};
 
 use crate::run_file::RunFile;
 use elf_image::{ImageErr, refusal_name};
 use lf_io::ReadErr;
-use report_text::fields::{LINE_FEED, SPACE, put, put_number};
+use report_text::fields::{LINE_FEED, Piece, SPACE, put, put_number};
 use run_texts::{ConfigErr, Key, TextErr, TextWhy};
-use std::alloc::{AllocError, Global};
+use std::alloc::AllocError;
 
 /// Why a call has no result.
 #[derive(Clone, Copy, Debug, PartialEq, Eq)]
@@ -92,36 +94,78 @@ impl From<ImageErr> for Fault {
     }
 }
 
-/// A line that ends with the number of a line of a text and its fault.
-fn text_line(alloc: Global, head: &[u8], line: u64, why: TextWhy) -> Result<Vec<u8>, AllocError>
-    ensures { IfOk result (λ text. text.items ≡ head.now ++ number space line ++ word_of why ++ codes "\n") }
+/// The word for a fault of a line.
+#[tactic(auto, using(crate::proofs::LineLengths::why_short))]
+fn why_text(why: TextWhy) -> &'static [u8]
+    ensures word { result.now ≡ word_of why }
+    ensures short { length result.now ≤ 20 }
 {
-    let mut text = Vec::from_slice(alloc, head)?;
-    put_number(&mut text, SPACE, line)?;
-    put(&mut text, why.word().as_bytes())?;
-    put(&mut text, b"\n")?;
-    Ok(text)
+    why.word().as_bytes()
+}
+
+/// The name of a key, as `machine.cores`.
+#[tactic(auto, using(crate::proofs::LineLengths::key_short))]
+fn key_text(key: Key) -> &'static [u8]
+    ensures name { result.now ≡ (row key).path }
+    ensures short { length result.now ≤ 20 }
+{
+    key.name().as_bytes()
+}
+
+/// The name of a refusal of an image.
+#[tactic(auto, using(crate::proofs::LineLengths::refusal_short))]
+fn refusal_text(number: u8) -> &'static [u8]
+    ensures name { result.now ≡ refusal_name number }
+    ensures short { length result.now ≤ 20 }
+{
+    refusal_name(number).as_bytes()
+}
+
+/// A line of these bytes.
+fn piece_of(bytes: &[u8]) -> Piece
+    requires { length bytes.now ≤ 100 }
+    ensures text { result.items ≡ bytes.now }
+{
+    let mut piece = Piece::new();
+    put(&mut piece, bytes);
+    piece
+}
+
+/// A line that ends with the number of a line of a text and its fault.
+fn text_line(head: &[u8], line: u64, why: TextWhy) -> Piece
+    requires { length head.now ≤ 20 }
+    ensures text { result.items ≡ head.now ++ number space line ++ word_of why ++ codes "\n" }
+{
+    let mut piece = piece_of(head);
+    put_number(&mut piece, SPACE, line);
+    put(&mut piece, why_text(why));
+    put(&mut piece, b"\n");
+    piece
 }
 
 /// A line that ends with a word.
-fn word_line(alloc: Global, head: &[u8], word: &[u8]) -> Result<Vec<u8>, AllocError>
-    ensures { IfOk result (λ text. text.items ≡ head.now ++ word.now ++ codes "\n") }
+fn word_line(head: &[u8], word: &[u8]) -> Piece
+    requires head_short { length head.now ≤ 20 }
+    requires word_short { length word.now ≤ 20 }
+    ensures text { result.items ≡ head.now ++ word.now ++ codes "\n" }
 {
-    let mut text = Vec::from_slice(alloc, head)?;
-    put(&mut text, word)?;
-    put(&mut text, b"\n")?;
-    Ok(text)
+    let mut piece = piece_of(head);
+    put(&mut piece, word);
+    put(&mut piece, b"\n");
+    piece
 }
 
 /// A line that ends with a word and a number.
-fn number_line(alloc: Global, head: &[u8], word: &[u8], n: u64) -> Result<Vec<u8>, AllocError>
-    ensures { IfOk result (λ text. text.items ≡ head.now ++ word.now ++ codes " " ++ number 10 n) }
+fn number_line(head: &[u8], word: &[u8], n: u64) -> Piece
+    requires head_short { length head.now ≤ 20 }
+    requires word_short { length word.now ≤ 20 }
+    ensures text { result.items ≡ head.now ++ word.now ++ codes " " ++ number 10 n }
 {
-    let mut text = Vec::from_slice(alloc, head)?;
-    put(&mut text, word)?;
-    put(&mut text, b" ")?;
-    put_number(&mut text, LINE_FEED, n)?;
-    Ok(text)
+    let mut piece = piece_of(head);
+    put(&mut piece, word);
+    put(&mut piece, b" ");
+    put_number(&mut piece, LINE_FEED, n);
+    piece
 }
 
 impl Fault {
@@ -175,24 +219,23 @@ impl Fault {
 
     /// The line that tells the fault.
     #[tactic(auto, unfolding(crate::specs::Faults::line_of))]
-    pub fn line(self, alloc: Global) -> Result<Vec<u8>, AllocError>
-        ensures { IfOk result (λ text. text.items ≡ line_of self) }
+    pub fn line(self) -> Piece
+        ensures { result.items ≡ line_of self }
     {
         match self {
-            Fault::Usage => Vec::from_slice(alloc, b"error 2 usage\n"),
-            Fault::Unread(file) => word_line(alloc, b"error 3 ", file.word()),
-            Fault::TooLong(file) => number_line(alloc, b"error 12 ", file.word(), file.limit()),
-            Fault::NotToml => Vec::from_slice(alloc, b"error 6 text -\n"),
-            Fault::UnknownKey => Vec::from_slice(alloc, b"error 6 key -\n"),
-            Fault::WrongKind(key) => word_line(alloc, b"error 6 kind ", key.name().as_bytes()),
-            Fault::OutOfRange(key) => word_line(alloc, b"error 6 range ", key.name().as_bytes()),
+            Fault::Usage => piece_of(b"error 2 usage\n"),
+            Fault::Unread(file) => word_line(b"error 3 ", file.word()),
+            Fault::TooLong(file) => number_line(b"error 12 ", file.word(), file.limit()),
+            Fault::NotToml => piece_of(b"error 6 text -\n"),
+            Fault::UnknownKey => piece_of(b"error 6 key -\n"),
+            Fault::WrongKind(key) => word_line(b"error 6 kind ", key_text(key)),
+            Fault::OutOfRange(key) => word_line(b"error 6 range ", key_text(key)),
             Fault::BadImage { number, offset } => {
-                let name = refusal_name(number).as_bytes();
-                number_line(alloc, b"error 4 ", name, u64::from(offset))
+                number_line(b"error 4 ", refusal_text(number), u64::from(offset))
             }
-            Fault::BadScript { line, why } => text_line(alloc, b"error 5 script ", line, why),
-            Fault::BadSchedule { line, why } => text_line(alloc, b"error 5 schedule ", line, why),
-            Fault::Memory => Vec::from_slice(alloc, b"error 7 memory\n"),
+            Fault::BadScript { line, why } => text_line(b"error 5 script ", line, why),
+            Fault::BadSchedule { line, why } => text_line(b"error 5 schedule ", line, why),
+            Fault::Memory => piece_of(b"error 7 memory\n"),
         }
     }
 }

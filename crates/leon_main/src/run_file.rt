@@ -1,4 +1,4 @@
-ghost use Rattle.std.specs.Prelude.{◌≡◌, ◌<◌, ◌^◌};
+ghost use Rattle.std.specs.Prelude.{◌≡◌, ◌<◌, ◌≤◌, ◌^◌, length};
 ghost use Rattle.leon_main.specs.Files.{file_word, limit_of};
 
 /// A file of a run. They are read in this order.
@@ -13,7 +13,8 @@ pub enum RunFile {
 impl RunFile {
     /// The word that names the file in a line.
     pub fn word(self) -> &'static [u8]
-        ensures { result.now ≡ file_word self }
+        ensures word { result.now ≡ file_word self }
+        ensures short { length result.now ≤ 20 }
     {
         match self {
             RunFile::Configuration => b"configuration",

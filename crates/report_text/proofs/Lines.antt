@@ -1,20 +1,20 @@
--- The lines of transfers, one written after another, and a line of words with another byte behind the last.
+-- The lines of a list, the line of an item and those after it, and a line of words with another byte behind the last.
 use Rattle.std.proofs.Common.{◌≡◌, ℕ, ◌+◌, ◌<◌, List, [], ◌∷◌, ◌++◌, length, get_or, drop, Option, Bool, true, false, if◌then◌else◌, refl, sym, ap, ◌∙◌, append_assoc, add-one}
 use Rattle.std.proofs.Math.Seq.{drop-cons}
 use Rattle.std.proofs.lemmas.List.{append-nil}
-use Rattle.std.specs.Prelude.{slice_get}
+use Rattle.std.specs.Prelude.{slice_get, codes, filter}
 use Rattle.std.specs.List.{flat_map}
 use Rattle.std.specs.Option.{option_map_or}
 use Rattle.lf_model.specs.declared.bus.Transfer.{Transfer}
 use Rattle.lf_model.specs.declared.trace.CoreResult.{CoreResult}
+use Rattle.lf_model.specs.declared.trace.Fate.{Fate}
 use Rattle.lf_model.specs.declared.trace.Op.{Op}
-use Rattle.lf_model.specs.Texts.{space, line_feed}
-use Rattle.lf_model.specs.Report.{word_field, words_text}
-use Rattle.lf_model.specs.TransferLines.{has_entry, length_of, transfer_line, lines_of}
-
--- one more line is written
-written : (before line rest after left whole : List ℕ) → line ++ rest ≡ left → before ++ left ≡ whole → after ≡ before ++ line → after ++ rest ≡ whole
-written before line rest after left whole here e put = rw put (append_assoc before line rest ∙ ap (λ (more : List ℕ). before ++ more) here ∙ e)
+use Rattle.lf_model.specs.declared.trace.Trace.{Trace}
+use Rattle.lf_model.specs.declared.trace.Word2.{Word2}
+use Rattle.lf_model.specs.Operation.{enters}
+use Rattle.lf_model.specs.Texts.{space, line_feed, number}
+use Rattle.lf_model.specs.Report.{count_line, bytes_text, out_line, word_field, words_text, core_lines, cores_lines, cores_part, ahb_line, transfers_part, fate_line, fate_lines, order_part, flips_part, watch_part, report}
+use Rattle.lf_model.specs.TransferLines.{has_entry, length_of, transfer_line, lines_of, transfer_lines}
 
 -- an item and those after it
 item_on : {X : Type 0} (xs : List X) (i : ℕ) (d : X) → i < length xs → get_or xs i d ∷ drop (i + 1) xs ≡ drop i xs
@@ -28,18 +28,48 @@ chosen : (b : Bool) (cores : List CoreResult) (entries : List Op) (t : Transfer)
 chosen true cores entries t ts = refl
 chosen false cores entries t ts = refl
 
-pub transfers_step : (before after whole : List ℕ) (cores : List CoreResult) (entries later : List Op) (transfers : List Transfer) (i len : ℕ) (d : Transfer)
+pub transfers_on : (cores : List CoreResult) (entries later : List Op) (transfers : List Transfer) (i len : ℕ) (d : Transfer)
     → i < length transfers
     → len ≡ (if has_entry cores (get_or transfers i d) then option_map_or length_of (slice_get entries 0) 0 else 0)
     → later ≡ (if has_entry cores (get_or transfers i d) then drop 1 entries else entries)
-    → before ++ lines_of cores entries (drop i transfers) ≡ whole → after ≡ before ++ transfer_line len (get_or transfers i d)
-    → after ++ lines_of cores later (drop (i + 1) transfers) ≡ whole
-transfers_step before after whole cores entries later transfers i len d within long left e put =
+    → transfer_line len (get_or transfers i d) ++ lines_of cores later (drop (i + 1) transfers) ≡ lines_of cores entries (drop i transfers)
+transfers_on cores entries later transfers i len d within long left =
     let t : Transfer = get_or transfers i d in
     let ts : List Transfer = drop (i + 1) transfers in
-    let here : transfer_line len t ++ lines_of cores later ts ≡ lines_of cores entries (drop i transfers) =
-    rw (long, left) (chosen (has_entry cores t) cores entries t ts ∙ ap (lines_of cores entries) (item_on transfers i d within)) in
-    written before (transfer_line len t) (lines_of cores later ts) after (lines_of cores entries (drop i transfers)) whole here e put
+    rw (long, left) (chosen (has_entry cores t) cores entries t ts ∙ ap (lines_of cores entries) (item_on transfers i d within))
+
+-- the line of an item and those after it
+pub lines_on : {X : Type 0} (f : X → List ℕ) (xs : List X) (i : ℕ) (d : X) → i < length xs
+    → f (get_or xs i d) ++ flat_map f (drop (i + 1) xs) ≡ flat_map f (drop i xs)
+lines_on f xs i d within = ap (flat_map f) (item_on xs i d within)
+
+pub fates_on : (fates : List Fate) (i : ℕ) (d : Fate) → i < length fates
+    → fate_line i (get_or fates i d) ++ fate_lines (i + 1) (drop (i + 1) fates) ≡ fate_lines i (drop i fates)
+fates_on fates i d within = ap (fate_lines i) (item_on fates i d within)
+
+pub cores_on : (cores : List CoreResult) (k : ℕ) (core : CoreResult) → k < length cores → core ≡ get_or cores k core
+    → core_lines k core ++ cores_lines (k + 1) (drop (k + 1) cores) ≡ cores_lines k (drop k cores)
+cores_on cores k core within is =
+    ap (cores_lines k) (ap (λ (c : CoreResult). c ∷ drop (k + 1) cores) is ∙ item_on cores k core within)
+
+-- the parts of the report, of the lists that the trace holds
+pub out_as : (k : ℕ) (core : CoreResult) (bytes : List ℕ) → bytes ≡ core.out
+    → (codes "out " ++ number space k) ++ (bytes_text bytes ++ codes "\n") ≡ out_line k core
+unfolding out_line
+out_as k core bytes is = rw is refl
+
+pub transfers_as : (trace : Trace) (transfers : List Transfer) (cores : List CoreResult) (order : List Op) → transfers ≡ trace.transfers
+    → cores ≡ trace.cores → order ≡ trace.order
+    → count_line (codes "transfers ") (length transfers) ++ lines_of cores (filter enters order) transfers ≡ transfers_part trace
+unfolding transfers_part transfer_lines
+transfers_as trace transfers cores order first second third = rw (first, second, third) refl
+
+pub report_as : (trace : Trace) (cores : List CoreResult) (order : List Op) (fates : List Fate) (watch : List Word2) → cores ≡ trace.cores
+    → order ≡ trace.order → fates ≡ trace.fates → watch ≡ trace.watch
+    → cores_part cores ++ (ahb_line trace.ahb_addr trace.ahb_status ++ (transfers_part trace ++ (order_part order ++ (flips_part fates
+    ++ (watch_part watch ++ codes "end\n"))))) ≡ report trace
+unfolding report
+report_as trace cores order fates watch first second third fourth = rw (first, second, third, fourth) refl
 
 -- words are those before the last and the last
 pub words_last : (front : List (Option ℕ)) (last : Option ℕ)

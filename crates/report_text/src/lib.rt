@@ -4,38 +4,51 @@
 mod cores;
 pub mod fields;
 mod outcome;
+mod stream;
 mod transfers;
 
-ghost use Rattle.std.specs.Prelude.{◌≡◌, ◌++◌, IfOk, OnOk, codes};
+ghost use Rattle.std.specs.Prelude.{◌≡◌, ◌≤◌, OnOk, OnErr};
+ghost use Rattle.lf_io.specs.Count.{Rose};
+ghost use Rattle.lf_io.specs.Taken.{Takes, TakesPrefix};
 ghost use Rattle.lf_model.specs.Report.{report};
+ghost use Rattle.report_text.specs.Written.{Writes, progress};
 
-use cores::put_cores;
-use fields::put;
+use cores::write_cores;
+use lf_io::{Failed, Sink};
 use lf_model::trace::Trace;
-use outcome::{put_ahb, put_flips, put_order, put_watch};
+use outcome::{write_ahb, write_flips, write_order, write_watch};
 pub use report_reader::{ReportErr, read_report};
-use std::alloc::{AllocError, Global};
-use transfers::put_transfers;
+use stream::Stream;
+use transfers::write_transfers;
 
-/// The report of a trace, each line of it ended by a line feed.
-#[tactic(auto, unfolding(lf_model::specs::Report::report))]
-pub fn report_of(alloc: Global, trace: &Trace) -> Result<Vec<u8>, AllocError>
-    ensures bytes { IfOk result (λ text. text.items ≡ report trace.now) }
+/// Writes the report of a trace, each line of it ended by a line feed, and takes no memory. The sink is given pieces of at
+/// most 4,096 bytes.
+///
+/// # Errors
+///
+/// The sink failed: then it has taken a part of the report, and nothing was written after the fault.
+pub fn write_report<K: Sink>(trace: &Trace, out: &mut K) -> Result<(), Failed>
+    ensures whole { OnOk result (Takes (K.taken out.old) (K.taken out.new) (report trace.now)) }
+    ensures part { OnErr result (TakesPrefix (K.taken out.old) (K.taken out.new) (report trace.now)) }
+    ensures cause { OnErr result (Rose (K.faults out.old) (K.faults out.new)) }
+    ensures never_falls { K.faults out.old ≤ K.faults out.new }
 {
-    let mut text = Vec::new(alloc);
-    put_cores(&mut text, trace.cores.as_slice())?;
-    put_ahb(&mut text, trace.ahb_addr, trace.ahb_status)?;
-    put_transfers(&mut text, trace)?;
-    put_order(&mut text, trace.order.as_slice())?;
-    put_flips(&mut text, trace.fates.as_slice())?;
-    put_watch(&mut text, trace.watch.as_slice())?;
-    put_end(&mut text)?;
-    Ok(text)
+    let mut text = Stream::new();
+    write_lines(&mut text, out, trace);
+    text.flush(out);
+    text.result()
 }
 
-/// Appends the last line.
-fn put_end(text: &mut Vec<u8>) -> Result<(), AllocError>
-    ensures appended { OnOk result (text.new.items ≡ text.old.items ++ codes "end\n") }
+/// Writes the lines of a report.
+fn write_lines<K: Sink>(text: &mut Stream, out: &mut K, trace: &Trace)
+    ensures written { Writes (progress (K.taken out.old) (K.faults out.old) text.old)
+        (progress (K.taken out.new) (K.faults out.new) text.new) (report trace.now) }
 {
-    put(text, b"end\n")
+    write_cores(text, out, trace.cores.as_slice());
+    write_ahb(text, out, trace.ahb_addr, trace.ahb_status);
+    write_transfers(text, out, trace);
+    write_order(text, out, trace.order.as_slice());
+    write_flips(text, out, trace.fates.as_slice());
+    write_watch(text, out, trace.watch.as_slice());
+    text.append(out, b"end\n");
 }

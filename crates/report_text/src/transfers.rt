@@ -1,47 +1,52 @@
-ghost use Rattle.std.specs.Prelude.{◌≡◌, ℕ, ◌-◌, ◌*◌, ◌/◌, ◌^◌, ◌++◌, OnOk, codes, filter, drop, slice_get, if◌then◌else◌};
+ghost use Rattle.std.specs.Prelude.{◌≡◌, ℕ, ◌+◌, ◌-◌, ◌*◌, ◌/◌, ◌^◌, ◌≤◌, ◌++◌, codes, filter, drop, length, slice_get, if◌then◌else◌};
 ghost use Rattle.std.specs.List.{list_any};
 ghost use Rattle.std.specs.Option.{option_map_or};
+ghost use Rattle.arrayvec.specs.ArrayVec.{array_vec_len};
 ghost use Rattle.lf_model.specs.Operation.{enters};
 ghost use Rattle.lf_model.specs.Texts.{hex_field};
-ghost use Rattle.lf_model.specs.Report.{count_line, transfers_part};
+ghost use Rattle.lf_model.specs.Report.{transfers_part};
 ghost use Rattle.lf_model.specs.TransferLines.{kind_word, why_word, way_field, syndromes_field, store_field, syn_field, transfer_line, makes_entry, stops_at, core_stops_at, has_entry, length_of, lines_of, transfer_lines};
+ghost use Rattle.report_text.specs.Written.{Writes, progress};
 
-use super::fields::{LINE_FEED, SPACE, put, put_count, put_hex_field, put_number};
+use super::fields::{LINE_FEED, Piece, SPACE, put, put_hex_field, put_number};
+use super::stream::Stream;
+use lf_io::Sink;
 use lf_model::bus::{OpKind, Transfer, TurnKind, Why};
 use lf_model::trace::{CoreEnd, CoreResult, Op, Trace};
-use std::alloc::AllocError;
 
-/// Appends the number of transfers, and a line for each.
-#[tactic(auto, unfolding(lf_model::specs::Report::transfers_part, lf_model::specs::TransferLines::transfer_lines))]
-pub fn put_transfers(text: &mut Vec<u8>, trace: &Trace) -> Result<(), AllocError>
-    ensures appended { OnOk result (text.new.items ≡ text.old.items ++ transfers_part trace.now) }
+/// Writes the number of transfers, and a line for each.
+pub fn write_transfers<K: Sink>(text: &mut Stream, out: &mut K, trace: &Trace)
+    ensures written { Writes (progress (K.taken out.old) (K.faults out.old) text.old)
+        (progress (K.taken out.new) (K.faults out.new) text.new) (transfers_part trace.now) }
 {
     let transfers = trace.transfers.as_slice();
-    put_count(text, b"transfers ", transfers.len())?;
-    put_transfer_list(
+    text.append_count(out, b"transfers ", transfers.len());
+    write_transfer_list(
         text,
+        out,
         trace.cores.as_slice(),
         trace.order.as_slice(),
         transfers,
-    )
+    );
 }
 
-/// Appends a line for each transfer, going along the order for the lengths of stores and atomics.
-fn put_transfer_list(
-    text: &mut Vec<u8>,
+/// Writes a line for each transfer, going along the order for the lengths of stores and atomics.
+fn write_transfer_list<K: Sink>(
+    text: &mut Stream,
+    out: &mut K,
     cores: &[CoreResult],
     order: &[Op],
     transfers: &[Transfer],
-) -> Result<(), AllocError>
-    ensures appended { OnOk result (text.new.items ≡ text.old.items ++ lines_of cores.now (filter enters order.now) transfers.now) }
+)
+    ensures written { Writes (progress (K.taken out.old) (K.faults out.old) text.old)
+        (progress (K.taken out.new) (K.faults out.new) text.new) (lines_of cores.now (filter enters order.now) transfers.now) }
 {
     let mut left = order;
     for transfer in transfers {
         let (len, later) = length_at(cores, left, transfer);
-        put_transfer(text, len, transfer)?;
+        write_transfer(text, out, len, transfer);
         left = later;
     }
-    Ok(())
 }
 
 /// The length of a transfer's entry in the log, 0 where it has none, and the part of the order that is left for
@@ -97,32 +102,44 @@ fn is_stop(end: CoreEnd, turn: u32) -> bool
     }
 }
 
+/// Writes the line of a transfer whose entry in the log has this length.
+fn write_transfer<K: Sink>(text: &mut Stream, out: &mut K, len: u8, transfer: &Transfer)
+    ensures written { Writes (progress (K.taken out.old) (K.faults out.old) text.old)
+        (progress (K.taken out.new) (K.faults out.new) text.new) (transfer_line len transfer.now) }
+{
+    text.make_room(out);
+    put_transfer(&mut text.piece, len, transfer);
+}
+
 /// Appends the line of a transfer whose entry in the log has this length.
 #[tactic(auto, unfolding(lf_model::specs::TransferLines::transfer_line))]
-fn put_transfer(text: &mut Vec<u8>, len: u8, transfer: &Transfer) -> Result<(), AllocError>
-    ensures appended { OnOk result (text.new.items ≡ text.old.items ++ transfer_line len transfer.now) }
+fn put_transfer(piece: &mut Piece, len: u8, transfer: &Transfer)
+    requires room { array_vec_len piece.old + 700 ≤ 4096 }
+    ensures appended { piece.new.items ≡ piece.old.items ++ transfer_line len transfer.now }
 {
-    put(text, b"t ")?;
-    put_number(text, SPACE, u64::from(transfer.turn))?;
-    put_number(text, SPACE, u64::from(transfer.master))?;
-    put_number(text, SPACE, u64::from(transfer.step))?;
-    put_action(text, len, transfer)
+    put(piece, b"t ");
+    put_number(piece, SPACE, u64::from(transfer.turn));
+    put_number(piece, SPACE, u64::from(transfer.master));
+    put_number(piece, SPACE, u64::from(transfer.step));
+    put_action(piece, len, transfer);
 }
 
 /// Appends the fields of a transfer's line from the word for what it does on.
-fn put_action(text: &mut Vec<u8>, len: u8, transfer: &Transfer) -> Result<(), AllocError>
-    ensures appended { let t = transfer.now in OnOk result (text.new.items ≡ text.old.items ++ (kind_word t.kind ++ (why_word t.why ++ (hex_field SPACE 8 t.addr ++ (way_field t.kind t.way ++ syn_field t.kind len t))))) }
+fn put_action(piece: &mut Piece, len: u8, transfer: &Transfer)
+    requires room { array_vec_len piece.old + 600 ≤ 4096 }
+    ensures appended { let t = transfer.now in piece.new.items ≡ piece.old.items ++ (kind_word t.kind ++ (why_word t.why ++ (hex_field SPACE 8 t.addr ++ (way_field t.kind t.way ++ syn_field t.kind len t)))) }
 {
-    put(text, kind_text(transfer.kind))?;
-    put(text, why_text(transfer.why))?;
-    put_hex_field(text, SPACE, 8, u64::from(transfer.addr))?;
-    put_way(text, transfer.kind, transfer.way)?;
-    put_syndrome_field(text, len, transfer)
+    put(piece, kind_text(transfer.kind));
+    put(piece, why_text(transfer.why));
+    put_hex_field(piece, SPACE, 8, u64::from(transfer.addr));
+    put_way(piece, transfer.kind, transfer.way);
+    put_syndrome_field(piece, len, transfer);
 }
 
 /// The word for what a transfer does, and the space behind it.
 fn kind_text(kind: TurnKind) -> &'static [u8]
     ensures word { result.now ≡ kind_word kind }
+    ensures short { length result.now ≤ 7 }
 {
     match kind {
         TurnKind::Fetch => b"fetch ",
@@ -138,6 +155,7 @@ fn kind_text(kind: TurnKind) -> &'static [u8]
 /// The word for why a transfer is made, and the space behind it.
 fn why_text(why: Why) -> &'static [u8]
     ensures word { result.now ≡ why_word why }
+    ensures short { length result.now ≤ 7 }
 {
     match why {
         Why::None => b"- ",
@@ -157,54 +175,60 @@ fn why_text(why: Why) -> &'static [u8]
 }
 
 /// Appends the way of a fill, and a dash for any other transfer.
-fn put_way(text: &mut Vec<u8>, kind: TurnKind, way: u8) -> Result<(), AllocError>
-    ensures appended { OnOk result (text.new.items ≡ text.old.items ++ way_field kind way) }
+fn put_way(piece: &mut Piece, kind: TurnKind, way: u8)
+    requires room { array_vec_len piece.old + 21 ≤ 4096 }
+    ensures appended { piece.new.items ≡ piece.old.items ++ way_field kind way }
+    ensures grown { array_vec_len piece.new ≤ array_vec_len piece.old + 21 }
 {
     match kind {
-        TurnKind::Fetch | TurnKind::Load => put_number(text, SPACE, u64::from(way)),
-        TurnKind::Store | TurnKind::Atomic | TurnKind::Snoop | TurnKind::Look | TurnKind::Fix =>
-            put(text, b"- "),
+        TurnKind::Fetch | TurnKind::Load => put_number(piece, SPACE, u64::from(way)),
+        TurnKind::Store | TurnKind::Atomic | TurnKind::Snoop | TurnKind::Look | TurnKind::Fix => {
+            put(piece, b"- ");
+        }
     }
 }
 
 /// Appends the syndromes of the words read, or dashes where a transfer reads none.
-fn put_syndrome_field(text: &mut Vec<u8>, len: u8, transfer: &Transfer) -> Result<(), AllocError>
-    ensures appended { OnOk result (text.new.items ≡ text.old.items ++ syn_field transfer.now.kind len transfer.now) }
+fn put_syndrome_field(piece: &mut Piece, len: u8, transfer: &Transfer)
+    requires room { array_vec_len piece.old + 520 ≤ 4096 }
+    ensures appended { piece.new.items ≡ piece.old.items ++ syn_field transfer.now.kind len transfer.now }
 {
     match transfer.kind {
-        TurnKind::Store => put_store_syndrome(text, len, transfer),
-        TurnKind::Snoop => put(text, b"-\n"),
+        TurnKind::Store => put_store_syndrome(piece, len, transfer),
+        TurnKind::Snoop => put(piece, b"-\n"),
         TurnKind::Fetch | TurnKind::Load | TurnKind::Atomic | TurnKind::Look | TurnKind::Fix => {
-            put_syndromes(text, transfer)
+            put_syndromes(piece, transfer);
         }
     }
 }
 
 /// Appends the syndrome of the word that a part store read, or two dashes for each word that a store wrote
 /// without a read.
-fn put_store_syndrome(text: &mut Vec<u8>, len: u8, transfer: &Transfer) -> Result<(), AllocError>
-    ensures appended { OnOk result (text.new.items ≡ text.old.items ++ store_field len transfer.now) }
+fn put_store_syndrome(piece: &mut Piece, len: u8, transfer: &Transfer)
+    requires room { array_vec_len piece.old + 520 ≤ 4096 }
+    ensures appended { piece.new.items ≡ piece.old.items ++ store_field len transfer.now }
 {
     if transfer.words != 0 {
-        put_syndromes(text, transfer)
+        put_syndromes(piece, transfer);
     } else if len == 8 {
-        put(text, b"----\n")
+        put(piece, b"----\n");
     } else {
-        put(text, b"--\n")
+        put(piece, b"--\n");
     }
 }
 
 /// Appends two digits for the syndrome of each word read.
-fn put_syndromes(text: &mut Vec<u8>, transfer: &Transfer) -> Result<(), AllocError>
-    ensures appended { OnOk result (text.new.items ≡ text.old.items ++ syndromes_field transfer.now) }
+fn put_syndromes(piece: &mut Piece, transfer: &Transfer)
+    requires room { array_vec_len piece.old + 520 ≤ 4096 }
+    ensures appended { piece.new.items ≡ piece.old.items ++ syndromes_field transfer.now }
 {
     let digits = 2 * u16::from(transfer.words);
     put_hex_field(
-        text,
+        piece,
         LINE_FEED,
         digits,
         top_bytes(transfer.syn, transfer.words),
-    )
+    );
 }
 
 /// The number that the top `count` bytes hold.

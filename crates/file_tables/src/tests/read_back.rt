@@ -1,5 +1,6 @@
 use super::reports::EACH_KIND;
-use report_text::{ReportErr, read_report, report_of};
+use lf_io::MemSink;
+use report_text::{ReportErr, read_report, write_report};
 use std::alloc::{AllocError, Global};
 use std::test::Fail;
 
@@ -306,8 +307,9 @@ fn reports_are_read_and_written_again(rt: HostRuntime) -> Result<(), Fail> {
     ] {
         assert_eq!(rt; told(alloc, text.as_bytes())?, 0);
         if let Ok(trace) = read_report(alloc, text.as_bytes()) {
-            let bytes = report_of(alloc, &trace)?;
-            assert_eq!(rt; bytes.as_slice(), text.as_bytes());
+            let mut out = MemSink::new(alloc, text.len(), &[])?;
+            assert!(rt; write_report(&trace, &mut out).is_ok());
+            assert_eq!(rt; out.taken(), text.as_bytes());
         }
     }
     Ok(())

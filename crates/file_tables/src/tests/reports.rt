@@ -1,7 +1,8 @@
+use lf_io::MemSink;
 use lf_model::bus::{OpKind, Transfer, TurnKind, Why};
 use lf_model::listed::Listed;
 use lf_model::trace::{CoreEnd, CoreResult, Fate, Four, Op, Regs, Trace, Word2};
-use report_text::report_of;
+use report_text::write_report;
 use std::alloc::{AllocError, Global};
 use std::test::Fail;
 
@@ -445,8 +446,9 @@ fn each_line_has_its_text(rt: HostRuntime) -> Result<(), Fail> {
         (of_output(alloc)?, OUTPUT),
         (of_each_kind(alloc)?, EACH_KIND),
     ] {
-        let bytes = report_of(alloc, &trace)?;
-        assert_eq!(rt; bytes.as_slice(), text.as_bytes());
+        let mut out = MemSink::new(alloc, text.len(), &[])?;
+        assert!(rt; write_report(&trace, &mut out).is_ok());
+        assert_eq!(rt; out.taken(), text.as_bytes());
     }
     Ok(())
 }

@@ -1,6 +1,8 @@
-use Rattle.std.proofs.Common.{Global, map}
+use Rattle.std.proofs.Common.{ℕ, ◌∙◌, List, Global, map, sym, subst, arith}
 use Rattle.std.specs.String.{string_bytes}
+use Rattle.lf_io.specs.Taken.{Takes}
 use Rattle.leon_main.proofs.DecideLemmas.{decides}
+use Rattle.leon_main.proofs.MemoryLemmas.{memory_line}
 use Rattle.leon_main.proofs.SettledLemmas.{settled}
 use Rattle.leon_main.proofs.call.plain_call.Goals as goal
 
@@ -13,3 +15,9 @@ returns-clause-decides g c held told faultless =
 
 pub returns-clause-settled : goal.returns-clause-settled
 returns-clause-settled g c names held = settled names held
+
+pub returns-clause-memory : goal.returns-clause-memory
+returns-clause-memory g c seven =
+    let told = c.tell.ensures.told (λ eight. omega (arith, seven, eight)) in
+    subst (λ (text : List ℕ). Takes (g.K.Sink.taken c.args.out.now) (g.K.Sink.taken c.tell.new.out) text)
+    (memory_line c.outcome_of-outcome.result (sym told.0 ∙ seven)) told.1

@@ -1,0 +1,21 @@
+-- Status 7 comes with the line of want of memory.
+use Rattle.std.proofs.Common.{ℕ, ◌≡◌, Bool, true, false, List, if◌then◌else◌, Result, Ok, Err, refl, arith}
+use Rattle.lf_model.specs.declared.trace.CoreResult.{CoreResult}
+use Rattle.leon_main.specs.Call.{status_of, text_of}
+use Rattle.leon_main.specs.Ends.{is_stop, is_limit, some_end, status_of_cores}
+use Rattle.leon_main.specs.Faults.{line_of}
+use Rattle.leon_main.specs.declared.answer.Answer.{Answer}
+use Rattle.leon_main.specs.declared.answer.Answer.TheVariants.{Report, CheckBits}
+use Rattle.leon_main.specs.declared.fault.Fault.{Fault}
+use Rattle.leon_main.specs.declared.fault.Fault.TheVariants.{Memory}
+
+not_seven : (p q : Bool) → (if p then 10 else (if q then 11 else 0)) ≡ 7 → ⊥
+not_seven true q e = omega (arith, e)
+not_seven false true e = omega (arith, e)
+not_seven false false e = omega (arith, e)
+
+pub memory_line : (outcome : Result Answer Fault) → status_of outcome ≡ 7 → text_of outcome ≡ line_of Memory
+memory_line (Ok (Report trace)) e = absurd (not_seven (some_end is_stop trace.cores) (some_end is_limit trace.cores) e)
+memory_line (Ok (CheckBits bits)) e = absurd (omega (arith, e))
+memory_line (Err Memory) e = refl
+memory_line (Err fault) e = absurd (omega (arith, e))

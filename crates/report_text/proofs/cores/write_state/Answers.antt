@@ -1,0 +1,5 @@
+use Rattle.report_text.proofs.Writing.{line_put}
+use Rattle.report_text.proofs.cores.write_state.Goals as goal
+
+pub returns : goal.returns
+returns g c = record { written = line_put _ _ _ _ _ _ _ c.make_room.ensures.written c.put_state.ensures.appended }
