@@ -31,7 +31,7 @@ use Rattle.leon_core.specs.Following.{FollowsHistories}
 use Rattle.leon_core.specs.RegistersState.{aim_at, TellsOutcomes}
 use Rattle.leon_core.proofs.HistoryLemmas.{map_at}
 use Rattle.leon_core.specs.Upsets.{Struck, unstruck, bad_of, bad_cells, upset_at}
-use Rattle.ahb_bus.specs.BusState.{without_length}
+use Rattle.early_bus.specs.BusState.{without_length}
 use Rattle.machine_play.specs.Cells.{retires_until, uses_by, first_bad_behind, ReadWell, ReadUntil, TellsSyndrome, AreLastCells}
 use Rattle.machine_play.specs.Memory.{entry_answers}
 use Rattle.machine_play.specs.Result.{told_register, told_registers}

@@ -20,7 +20,7 @@ use Rattle.lf_model.specs.declared.step.RegBad.{RegBad}
 use Rattle.lf_model.specs.declared.step.Turn.TheVariants.{Load, Atomic}
 use Rattle.v8_exec.specs.Accesses.{atomic_access}
 use Rattle.v8_exec.specs.Frame.{Counts}
-use Rattle.ahb_bus.specs.Storing.{is_atomic_length}
+use Rattle.early_bus.specs.Storing.{is_atomic_length}
 use Rattle.machine_play.specs.declared.hand.Hand.{Hand}
 use Rattle.machine_play.specs.declared.parts.Parts.{Parts}
 use Rattle.machine_play.specs.Hand.{byte_in, has_bytes, parts_with, IsHandOf}

@@ -19,7 +19,7 @@ use Rattle.lf_model.specs.declared.instruction.MemName.TheVariants.{Ld, Ldub, Ld
 use Rattle.lf_model.specs.declared.instruction.Instr.{Instr}
 use Rattle.lf_model.specs.declared.instruction.Instr.TheVariants.{Illegal, AltIllegal, FpOff, CpOff, FpQueue, CpQueue, Stbar, Call, Sethi, Bicc, Calc, Ticc, ReadState, ReadAsr, WriteState, WriteAsr, Jmpl, Rett, Flush, Save, Restore, Mem, Alternate}
 use Rattle.v8_exec.specs.Accesses.{atomic_access}
-use Rattle.ahb_bus.specs.Storing.{is_atomic_length}
+use Rattle.early_bus.specs.Storing.{is_atomic_length}
 use Rattle.machine_play.specs.Core.{FitsRam}
 
 -- the access, if there is one, is a load, a store or an atomic of bytes of RAM

@@ -19,8 +19,8 @@ use Rattle.lf_model.specs.declared.step.Did.TheVariants.{Need}
 use Rattle.lf_model.specs.declared.step.Turn.TheVariants.{Atomic}
 use Rattle.lf_model.specs.declared.trace.Op.{Op}
 use Rattle.v8_exec.specs.Accesses.{atomic_access, Finishes}
-use Rattle.ahb_bus.specs.BusState.{BusState, word_of, after_turn}
-use Rattle.ahb_bus.specs.Storing.{is_atomic_length, with_stored, atomic_made}
+use Rattle.early_bus.specs.BusState.{BusState, word_of, after_turn}
+use Rattle.early_bus.specs.Storing.{is_atomic_length, with_stored, atomic_made}
 use Rattle.machine_play.specs.declared.hand.Hand.{Hand}
 use Rattle.machine_play.specs.declared.machine.Machine.{Machine}
 use Rattle.machine_play.specs.declared.parts.Parts.{Parts}

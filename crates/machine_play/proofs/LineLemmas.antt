@@ -12,7 +12,7 @@ use Rattle.lf_model.specs.declared.bus.TurnKind.TheVariants.{Load}
 use Rattle.lf_model.specs.declared.bus.Why.TheVariants.{Absent}
 use Rattle.lf_model.specs.declared.setup.Setup.{Setup}
 use Rattle.early_memory.specs.Memory.{place_of}
-use Rattle.ahb_bus.specs.BusState.{BusState, met, fill_made, after_turn, ram_size, ShowsLine}
+use Rattle.early_bus.specs.BusState.{BusState, met, fill_made, after_turn, ram_size, ShowsLine}
 use Rattle.machine_play.specs.declared.hand.Hand.{Hand}
 use Rattle.machine_play.specs.declared.machine.Machine.{Machine}
 use Rattle.machine_play.specs.Memory.{HasBytes, byte_after}

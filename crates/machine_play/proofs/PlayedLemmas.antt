@@ -42,7 +42,7 @@ use Rattle.leon_core.specs.Following.{FollowsHistories}
 use Rattle.leon_core.specs.RegistersState.{TellsOutcomes}
 use Rattle.leon_core.specs.RegistersState.{TellsOwnFates as TellsRegisters}
 use Rattle.leon_core.specs.Upsets.{Struck, bad_cells}
-use Rattle.ahb_bus.specs.BusState.{without_length}
+use Rattle.early_bus.specs.BusState.{without_length}
 use Rattle.machine_play.specs.declared.machine.Machine.{Machine}
 use Rattle.machine_play.specs.declared.machine.Ending.{Ending}
 use Rattle.machine_play.specs.Playable.{IsPlayable}

@@ -13,7 +13,7 @@ use Rattle.lf_model.specs.declared.control.Ctl.{Ctl}
 use Rattle.lf_model.specs.declared.setup.Setup.{Setup}
 use Rattle.lf_model.specs.declared.trace.Op.{Op}
 use Rattle.leon_core.specs.RegistersState.{values, StartsWith as StartsRegisters}
-use Rattle.ahb_bus.specs.BusState.{BusState, StartsWith}
+use Rattle.early_bus.specs.BusState.{BusState, StartsWith}
 use Rattle.machine_play.specs.declared.machine.Machine.{Machine}
 use Rattle.early_memory.specs.Memory.{place_of}
 use Rattle.machine_play.specs.declared.hand.Hand.{Hand}

@@ -16,8 +16,8 @@ use Rattle.lf_model.specs.declared.bus.Why.TheVariants.{Full}
 use Rattle.lf_model.specs.declared.setup.Setup.{Setup}
 use Rattle.lf_model.specs.declared.trace.Op.{Op}
 use Rattle.lf_model.proofs.EachLemmas.{each_append, each_weaker}
-use Rattle.ahb_bus.specs.BusState.{BusState, after_turn}
-use Rattle.ahb_bus.specs.Storing.{with_stored, store_made}
+use Rattle.early_bus.specs.BusState.{BusState, after_turn}
+use Rattle.early_bus.specs.Storing.{with_stored, store_made}
 use Rattle.machine_play.specs.declared.hand.Hand.{Hand}
 use Rattle.machine_play.specs.declared.machine.Machine.{Machine}
 use Rattle.machine_play.specs.Memory.{entry_enters, HoldsWords, PutsFit, HasBytes}

@@ -29,8 +29,8 @@ use Rattle.lf_model.specs.declared.trace.Word2.{Word2}
 use Rattle.lf_model.specs.declared.trace.CoreEnd.TheVariants.{Stop}
 use Rattle.early_memory.specs.Parts.{word_address, is_part}
 use Rattle.v8_exec.specs.Accesses.{atomic_access}
-use Rattle.ahb_bus.specs.BusState.{BusState, met, fill_made, after_turn, without_length}
-use Rattle.ahb_bus.specs.Storing.{rewrite_made, write_made, store_made, atomic_made, is_atomic_length, meets_bad, syndrome_at, is_lost as loses}
+use Rattle.early_bus.specs.BusState.{BusState, met, fill_made, after_turn, without_length}
+use Rattle.early_bus.specs.Storing.{rewrite_made, write_made, store_made, atomic_made, is_atomic_length, meets_bad, syndrome_at, is_lost as loses}
 use Rattle.machine_play.specs.declared.machine.Machine.{Machine}
 use Rattle.machine_play.specs.Memory.{HoldsWords}
 use Rattle.machine_play.specs.Core.{FitsRam}

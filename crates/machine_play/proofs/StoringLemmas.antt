@@ -10,8 +10,8 @@ use Rattle.lf_model.specs.declared.setup.Setup.{Setup}
 use Rattle.early_memory.specs.Memory.{place_of}
 use Rattle.early_memory.specs.Parts.{is_part, merged}
 use Rattle.early_memory.proofs.PartLemmas.{merged-bytes, first_byte, second_byte, third_byte, fourth_byte, first_half, second_half}
-use Rattle.ahb_bus.specs.BusState.{BusState, word_of, with_word}
-use Rattle.ahb_bus.specs.Storing.{is_store_length, with_stored}
+use Rattle.early_bus.specs.BusState.{BusState, word_of, with_word}
+use Rattle.early_bus.specs.Storing.{is_store_length, with_stored}
 use Rattle.machine_play.specs.Memory.{entry_enters, HoldsWords, HasBytes, byte_after}
 use Rattle.machine_play.specs.Core.{FitsRam}
 use Rattle.machine_play.specs.Midstep.{number_read}

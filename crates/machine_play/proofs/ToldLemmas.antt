@@ -17,8 +17,8 @@ use Rattle.lf_model.specs.declared.flip.Flip.{Flip}
 use Rattle.lf_model.specs.declared.flip.Flip.TheVariants.{Mem, Reg, Tag, Line}
 use Rattle.lf_model.specs.declared.trace.Fate.{Fate}
 use Rattle.early_memory.specs.Parts.{word_address}
-use Rattle.ahb_bus.specs.BusState.{BusState, met, after_turn, without_length, AimsInRam}
-use Rattle.ahb_bus.proofs.HistoryLemmas.{met-after}
+use Rattle.early_bus.specs.BusState.{BusState, met, after_turn, without_length, AimsInRam}
+use Rattle.early_bus.proofs.HistoryLemmas.{met-after}
 
 -- the history of a word after a turn
 history_of : (bus : BusState) (t : Transfer) (word : ℕ) → met (after_turn bus t) word ≡ history bus.flips [] word (bus.transfers ++ t ∷ [])

@@ -21,7 +21,7 @@ use Rattle.lf_model.specs.declared.trace.CoreEnd.TheVariants.{Halt, Stop, Limit}
 use Rattle.lf_model.specs.declared.trace.CoreResult.{CoreResult}
 use Rattle.lf_model.specs.declared.trace.Op.{Op}
 use Rattle.lf_model.proofs.EachLemmas.{each_weaker, filter_none}
-use Rattle.ahb_bus.specs.BusState.{without_length}
+use Rattle.early_bus.specs.BusState.{without_length}
 use Rattle.machine_play.specs.Service.{Service, IsLineFill, IsAtomicTry, IsSplit, IsLeft, service_by, service_of, service_for, is_load, is_atomic, is_load_turn, is_atomic_try}
 use Rattle.machine_play.specs.Transfers.{HasAscendingSteps}
 

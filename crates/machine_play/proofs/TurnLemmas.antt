@@ -25,9 +25,9 @@ use Rattle.lf_model.specs.declared.setup.Setup.{Setup}
 use Rattle.lf_model.specs.declared.trace.Op.{Op}
 use Rattle.lf_model.proofs.EachLemmas.{each_append, each_weaker}
 use Rattle.early_memory.specs.Parts.{word_address, is_part}
-use Rattle.ahb_bus.specs.BusState.{BusState, met, packed, word_of, fill_made, after_turn, with_word, without_length, ram_size, ShowsLine}
-use Rattle.ahb_bus.specs.Storing.{word_stored, with_stored, write_made, rewrite_made, store_made, atomic_made, packed_alone}
-use Rattle.ahb_bus.specs.declared.record.Who.{Who}
+use Rattle.early_bus.specs.BusState.{BusState, met, packed, word_of, fill_made, after_turn, with_word, without_length, ram_size, ShowsLine}
+use Rattle.early_bus.specs.Storing.{word_stored, with_stored, write_made, rewrite_made, store_made, atomic_made, packed_alone}
+use Rattle.early_bus.specs.declared.record.Who.{Who}
 use Rattle.machine_play.specs.declared.turn.BadMet.{BadMet}
 use Rattle.machine_play.specs.Memory.{entry_enters, HasBytes}
 use Rattle.machine_play.specs.Core.{FitsRam}

@@ -19,8 +19,8 @@ use Rattle.lf_model.specs.declared.setup.Setup.{Setup}
 use Rattle.lf_model.specs.declared.step.Did.TheVariants.{Need}
 use Rattle.lf_model.specs.declared.step.Turn.TheVariants.{Atomic}
 use Rattle.v8_exec.specs.Accesses.{atomic_access, WritesAtEnd}
-use Rattle.ahb_bus.specs.BusState.{BusState, fill_made, after_turn}
-use Rattle.ahb_bus.specs.Storing.{with_stored, store_made, atomic_made}
+use Rattle.early_bus.specs.BusState.{BusState, fill_made, after_turn}
+use Rattle.early_bus.specs.Storing.{with_stored, store_made, atomic_made}
 use Rattle.leon_core.specs.Upsets.{Struck, write_cell}
 use Rattle.machine_play.specs.declared.machine.Machine.{Machine}
 use Rattle.machine_play.specs.Cells.{MakesTurn}

@@ -12,7 +12,7 @@ use Rattle.lf_model.specs.declared.step.Did.{Did}
 use Rattle.lf_model.specs.declared.step.Did.TheVariants.{Retired, Need, Halt, Stop}
 use Rattle.lf_model.specs.declared.step.Turn.TheVariants.{Load, Atomic}
 use Rattle.v8_exec.specs.Accesses.{atomic_access}
-use Rattle.ahb_bus.specs.Storing.{is_store_length, is_atomic_length}
+use Rattle.early_bus.specs.Storing.{is_store_length, is_atomic_length}
 use Rattle.machine_play.specs.declared.hand.Hand.{Hand}
 use Rattle.machine_play.specs.declared.parts.Parts.{Parts}
 use Rattle.machine_play.specs.Hand.{parts_with, IsHandOf}

@@ -15,7 +15,7 @@ use Rattle.lf_model.specs.declared.setup.Setup.{Setup}
 use Rattle.lf_model.specs.declared.trace.CoreEnd.{CoreEnd}
 use Rattle.lf_model.specs.declared.trace.CoreEnd.TheVariants.{Halt, Stop, Limit}
 use Rattle.lf_model.specs.declared.trace.Op.{Op}
-use Rattle.ahb_bus.specs.BusState.{BusState, without_length}
+use Rattle.early_bus.specs.BusState.{BusState, without_length}
 use Rattle.machine_play.specs.declared.machine.Machine.{Machine}
 use Rattle.machine_play.specs.declared.machine.Ending.{Ending}
 use Rattle.machine_play.specs.Memory.{RunIs, halted, HoldsWords}

@@ -12,7 +12,7 @@ use Rattle.lf_model.specs.declared.bus.TurnKind.TheVariants.{Load}
 use Rattle.lf_model.specs.declared.flip.Flip.{Flip}
 use Rattle.lf_model.specs.declared.setup.Setup.{Setup}
 use Rattle.lf_model.specs.declared.trace.Op.{Op}
-use Rattle.ahb_bus.specs.BusState.{BusState, ram_size, without_length}
+use Rattle.early_bus.specs.BusState.{BusState, ram_size, without_length}
 use Rattle.machine_play.specs.declared.hand.Hand.{Hand}
 use Rattle.machine_play.specs.declared.machine.Machine.{Machine}
 use Rattle.machine_play.specs.Memory.{HoldsWords}

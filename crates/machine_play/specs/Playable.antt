@@ -2,7 +2,7 @@
 use Rattle.std.specs.Prelude.{◌≡◌, ◌≤◌, ◌%◌, All, length, []}
 use Rattle.lf_model.specs.Start.{IsLoadable}
 use Rattle.lf_model.specs.declared.setup.Setup.{Setup}
-use Rattle.ahb_bus.specs.BusState.{AimsInRam}
+use Rattle.early_bus.specs.BusState.{AimsInRam}
 use Rattle.leon_core.specs.RegistersState.{AimsAtCell}
 
 -- one core, no scrubber and no watched words; an image that can be loaded; flips that aim at words in RAM and at register cells

@@ -16,8 +16,8 @@ use Rattle.lf_model.specs.declared.setup.Setup.{Setup}
 use Rattle.lf_model.specs.declared.trace.CoreResult.{CoreResult}
 use Rattle.lf_model.specs.declared.trace.Op.{Op}
 use Rattle.lf_model.specs.declared.trace.Trace.{Trace}
-use Rattle.ahb_bus.specs.BusState.{packed, without_length}
-use Rattle.ahb_bus.specs.Storing.{packed_alone}
+use Rattle.early_bus.specs.BusState.{packed, without_length}
+use Rattle.early_bus.specs.Storing.{packed_alone}
 use Rattle.machine_play.specs.Service.{Service, service_by, service_for, IsSplit, IsLeft, is_load_turn, is_atomic_try}
 
 -- ---- what each transfer tells

@@ -1,7 +1,7 @@
 use crate::hand::Hand;
 use crate::parts::Parts;
 use crate::program::Program;
-use ahb_bus::Bus;
+use early_bus::Bus;
 use lf_model::trace::{CoreEnd, Op, Word2};
 use v8_exec::Arch;
 

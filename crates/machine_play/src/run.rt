@@ -12,7 +12,7 @@ use crate::machine::{Ending, Machine};
 use crate::parts::Parts;
 use crate::program::Program;
 use crate::{results, step};
-use ahb_bus::Bus;
+use early_bus::Bus;
 use lf_model::control::{Arch, Ctl};
 use lf_model::setup::Setup;
 use lf_model::trace::{CoreEnd, Fates, Trace, Word2};

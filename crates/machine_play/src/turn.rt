@@ -1,11 +1,11 @@
 ghost use Rattle.std.specs.Prelude.{◌≡◌, ◌<◌, ◌*◌, ◌%◌, ◌^◌, ◌↔◌, true, false, length, IsTrue, IsOk, IsErr, IfOk, IfErr};
 ghost use Rattle.lf_model.specs.Start.{is_in_ram};
 ghost use Rattle.early_memory.specs.Parts.{word_address};
-ghost use Rattle.ahb_bus.specs.BusState.{ram_size, word_of, fill_made, after_turn, ShowsLine};
-ghost use Rattle.ahb_bus.specs.Storing.{is_store_length, is_atomic_length, is_lost, meets_bad, syndrome_at, with_stored, store_made, atomic_made};
+ghost use Rattle.early_bus.specs.BusState.{ram_size, word_of, fill_made, after_turn, ShowsLine};
+ghost use Rattle.early_bus.specs.Storing.{is_store_length, is_atomic_length, is_lost, meets_bad, syndrome_at, with_stored, store_made, atomic_made};
 ghost use Rattle.machine_play.specs.Machine.{in_turn};
 
-use ahb_bus::{Bus, Who};
+use early_bus::{Bus, Who};
 use lf_model::bus::{Bad, Entry, Line, Pending, TurnKind, Why};
 
 /// A line that a load turn read, and the number of the turn.

@@ -1,6 +1,6 @@
 use Rattle.std.proofs.Common.{Option, false, ap, refl, sym, subst}
 use Rattle.std.specs.Option.{OnSome}
-use Rattle.ahb_bus.specs.BusState.{BusState}
+use Rattle.early_bus.specs.BusState.{BusState}
 use Rattle.machine_play.specs.Cells.{MakesTurn, Turns}
 use Rattle.machine_play.specs.declared.machine.Ending.{Ending}
 use Rattle.machine_play.specs.declared.turn.BadMet.{BadMet}

@@ -1,7 +1,7 @@
 use Rattle.std.proofs.Common.{◌≡◌, false, true, subst, IsTrue, length}
 use Rattle.early_memory.specs.Parts.{word_address}
-use Rattle.ahb_bus.specs.BusState.{BusState, after_turn}
-use Rattle.ahb_bus.specs.Storing.{meets_bad, syndrome_at, with_stored, atomic_made}
+use Rattle.early_bus.specs.BusState.{BusState, after_turn}
+use Rattle.early_bus.specs.Storing.{meets_bad, syndrome_at, with_stored, atomic_made}
 use Rattle.machine_play.specs.Machine.{in_turn}
 use Rattle.machine_play.proofs.TurnLemmas.{core_in, met_at}
 use Rattle.machine_play.proofs.turn.atomic_turn.Goals as goal

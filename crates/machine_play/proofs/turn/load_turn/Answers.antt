@@ -1,5 +1,5 @@
 use Rattle.std.proofs.Common.{subst}
-use Rattle.ahb_bus.specs.BusState.{BusState, ShowsLine}
+use Rattle.early_bus.specs.BusState.{BusState, ShowsLine}
 use Rattle.machine_play.proofs.turn.load_turn.Goals as goal
 
 pub returns-clause-line : goal.returns-clause-line

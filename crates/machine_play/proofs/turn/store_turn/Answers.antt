@@ -1,8 +1,8 @@
 use Rattle.std.proofs.Common.{◌≡◌, false, true, subst, IsTrue, length}
 use Rattle.lf_model.specs.declared.bus.Why.TheVariants.{Full}
 use Rattle.early_memory.specs.Parts.{word_address}
-use Rattle.ahb_bus.specs.BusState.{BusState, after_turn}
-use Rattle.ahb_bus.specs.Storing.{is_lost, syndrome_at, with_stored, store_made}
+use Rattle.early_bus.specs.BusState.{BusState, after_turn}
+use Rattle.early_bus.specs.Storing.{is_lost, syndrome_at, with_stored, store_made}
 use Rattle.machine_play.specs.Machine.{in_turn}
 use Rattle.machine_play.proofs.TurnLemmas.{core_in, met_at}
 use Rattle.machine_play.proofs.turn.store_turn.Goals as goal
