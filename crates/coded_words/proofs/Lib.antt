@@ -1,4 +1,3 @@
-pub mod CellLemmas
 pub mod ArrayLemmas
 pub mod PastLemmas
 pub mod AnswerLemmas

@@ -10,7 +10,7 @@ use Rattle.lf_model.specs.Fates.{stands}
 use Rattle.lf_model.specs.Caches.Slot.{history_at, befalls}
 use Rattle.lf_model.specs.Flips.{Moment, Standing, standing, turned, word_bits, word_budget}
 use Rattle.lf_model.specs.Flips.Moment.{Named}
-use Rattle.coded_words.specs.Inside.{IsCellOf}
+use Rattle.ft_cells.specs.Histories.{IsCellOf}
 use Rattle.coded_words.specs.Kept.{unit_histories, IsRemembered}
 use Rattle.coded_words.specs.Past.{past_at, GoesOn, named_behind, named_since}
 

@@ -1,6 +1,5 @@
 pub mod Ways
 pub mod WordState
-pub mod Inside
 pub mod Past
 pub mod Words
 pub mod Kept

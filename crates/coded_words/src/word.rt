@@ -26,7 +26,7 @@ impl Model for Word {
 
     ghost Value = { WordState };
 
-    ghost use Rattle.coded_words.specs.Inside.{IsCellOf};
+    ghost use Rattle.ft_cells.specs.Histories.{IsCellOf};
 
     ghost view = { λ word. record { value = word.cell.value; history = word.history } };
 

@@ -11,7 +11,7 @@ use Rattle.lf_model.specs.Start.{ram_first, is_in_ram}
 use Rattle.lf_model.specs.declared.bus.Line.{Line}
 use Rattle.early_memory.specs.Cells.{CellState, fresh, is_bad, shown_word, syndrome_of}
 use Rattle.early_memory.specs.Memory.{ram_of, place_of, cell_at, line_at}
-use Rattle.flip_plan.specs.Cells.{IsCellOf}
+use Rattle.ft_cells.specs.Histories.{IsCellOf}
 use Rattle.early_bus.specs.BusState.{BusState, word_of, met, shown, ShowsWord, ShowsLine}
 use Rattle.early_bus.specs.Cells.{values, AreCellsOf}
 

@@ -10,10 +10,10 @@ use Rattle.early_memory.specs.Cells.{CellState, fresh, FlipsCell}
 use Rattle.early_memory.specs.Memory.{ram_of, place_of, cell_at}
 use Rattle.ft_cells.specs.declared.flipped.Flipped.{Flipped}
 use Rattle.ft_cells.specs.declared.flipped.Flipped.TheVariants.{Applied, Declined}
-use Rattle.flip_plan.specs.Cells.{IsCellOf}
+use Rattle.ft_cells.specs.Histories.{IsCellOf}
 use Rattle.flip_plan.specs.Striking.{struck_by}
 use Rattle.flip_plan.specs.declared.plan.Strike.{Strike}
-use Rattle.flip_plan.proofs.CellLemmas.{cell_written, cell_struck}
+use Rattle.ft_cells.proofs.HistoryLemmas.{cell_written, cell_struck}
 use Rattle.early_bus.specs.Aimed.{IsAimed}
 use Rattle.early_bus.specs.Cells.{values, AreCellsOf}
 use Rattle.early_bus.proofs.HistoryLemmas.{written_at}

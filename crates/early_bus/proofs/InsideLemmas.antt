@@ -22,7 +22,7 @@ use Rattle.flip_plan.specs.Plan.{IsCursor, IsPlan, strikes_from}
 use Rattle.flip_plan.specs.Striking.{after_run, marked}
 use Rattle.flip_plan.specs.Telling.{TellSame, TellAll}
 use Rattle.flip_plan.specs.declared.plan.Strike.{Strike}
-use Rattle.flip_plan.proofs.CellLemmas.{cell_fresh}
+use Rattle.ft_cells.proofs.HistoryLemmas.{cell_fresh}
 use Rattle.flip_plan.proofs.HistoryLemmas.{run_begun}
 use Rattle.flip_plan.proofs.TellLemmas.{tells_later, tells_settled, tells_turn, tells_first}
 use Rattle.early_bus.specs.BusState.{BusState, met, is_fill, after_turn, AimsInRam}

@@ -14,7 +14,7 @@ use Rattle.lf_model.specs.declared.trace.Fate.{Fate}
 use Rattle.early_memory.specs.Cells.{CellState, fresh}
 use Rattle.early_memory.specs.Memory.{ram_of, place_of, cell_at}
 use Rattle.early_memory.specs.Parts.{word_address, is_part}
-use Rattle.flip_plan.specs.Cells.{IsCellOf}
+use Rattle.ft_cells.specs.Histories.{IsCellOf}
 use Rattle.early_bus.specs.BusState.{BusState, ram_size, word_of, met, after_turn, with_word}
 use Rattle.early_bus.specs.Storing.{is_rewrite, word_stored, with_stored}
 use Rattle.early_bus.specs.Cells.{values, AreCellsOf}

@@ -3,7 +3,7 @@ use Rattle.std.specs.Prelude.{ℕ, ◌+◌, ◌*◌, ◌<◌, List, length, map,
 use Rattle.lf_model.specs.Flips.{Moment}
 use Rattle.lf_model.specs.Start.{ram_first}
 use Rattle.early_memory.specs.Cells.{CellState, fresh}
-use Rattle.flip_plan.specs.Cells.{IsCellOf}
+use Rattle.ft_cells.specs.Histories.{IsCellOf}
 
 -- the word last written to each cell
 abbrev pub values : List CellState → List ℕ

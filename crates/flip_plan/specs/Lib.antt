@@ -2,4 +2,3 @@ pub mod Arrays
 pub mod Plan
 pub mod Striking
 pub mod Telling
-pub mod Cells

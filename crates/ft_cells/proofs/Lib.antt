@@ -1,2 +1,3 @@
 pub mod ToggleLemmas
 pub mod StoredLemmas
+pub mod HistoryLemmas

@@ -4,3 +4,4 @@ pub mod Codes
 pub mod Laws
 pub mod Stored
 pub mod WordCells
+pub mod Histories

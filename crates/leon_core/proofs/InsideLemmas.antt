@@ -12,7 +12,7 @@ use Rattle.lf_model.specs.declared.flip.Flip.{Flip}
 use Rattle.lf_model.specs.declared.trace.Fate.TheVariants as fates
 use Rattle.ft_cells.specs.WordCells.{CellState, cell_bits, fresh}
 use Rattle.early_regfile.specs.Registers.{Registers, cell_count, at_start}
-use Rattle.flip_plan.specs.Cells.{IsCellOf}
+use Rattle.ft_cells.specs.Histories.{IsCellOf}
 use Rattle.flip_plan.specs.Plan.{strike_with, strikes_from, IsPlan}
 use Rattle.flip_plan.specs.Striking.{after_run}
 use Rattle.flip_plan.specs.Telling.{TellAll}

@@ -13,10 +13,10 @@ use Rattle.ft_cells.specs.declared.flipped.Flipped.{Flipped}
 use Rattle.ft_cells.specs.declared.flipped.Flipped.TheVariants as flips
 use Rattle.early_regfile.specs.Registers.{Registers, cell_of, told, rewritten, written, after_read, struck, standing_in, Flips}
 use Rattle.early_regfile.proofs.KeptLemmas.{length-told}
-use Rattle.flip_plan.specs.Cells.{IsCellOf}
+use Rattle.ft_cells.specs.Histories.{IsCellOf}
 use Rattle.flip_plan.specs.Striking.{struck_by, after_run, marked_one}
 use Rattle.flip_plan.specs.declared.plan.Strike.{Strike}
-use Rattle.flip_plan.proofs.CellLemmas.{cell_struck}
+use Rattle.ft_cells.proofs.HistoryLemmas.{cell_struck}
 use Rattle.flip_plan.proofs.StrikeLemmas.{after_run-more, marked-more}
 use Rattle.leon_core.specs.Following.{fate_so_far}
 use Rattle.leon_core.specs.RegistersState.{values_in}

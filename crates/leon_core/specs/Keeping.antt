@@ -7,7 +7,7 @@ use Rattle.ft_cells.specs.WordCells.{CellState, cell_bits, fresh}
 use Rattle.ft_cells.specs.declared.flipped.Flipped.{Flipped}
 use Rattle.ft_cells.specs.declared.flipped.Flipped.TheVariants as flips
 use Rattle.early_regfile.specs.Registers.{Registers, cell_count}
-use Rattle.flip_plan.specs.Cells.{IsCellOf}
+use Rattle.ft_cells.specs.Histories.{IsCellOf}
 use Rattle.flip_plan.specs.Plan.{IsCursor}
 use Rattle.flip_plan.specs.Striking.{after_run, marked}
 use Rattle.flip_plan.specs.declared.plan.Strike.{Strike}

@@ -1,4 +1,4 @@
-use Rattle.coded_words.proofs.CellLemmas.{cell_struck}
+use Rattle.ft_cells.proofs.HistoryLemmas.{cell_struck}
 use Rattle.coded_words.proofs.word.Word.flip.Goals as goal
 
 pub invariant_of-self : goal.invariant_of-self

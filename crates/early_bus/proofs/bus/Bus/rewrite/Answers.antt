@@ -4,7 +4,7 @@ use Rattle.lf_model.specs.declared.bus.Transfer.{Transfer}
 use Rattle.early_memory.specs.Cells.{fresh}
 use Rattle.early_memory.specs.Memory.{place_of, cell_at}
 use Rattle.early_memory.specs.Parts.{word_address}
-use Rattle.flip_plan.proofs.CellLemmas.{good_history, bad_history, same_syndrome}
+use Rattle.ft_cells.proofs.HistoryLemmas.{good_history, bad_history, same_syndrome}
 use Rattle.early_bus.specs.BusState.{BusState, met}
 use Rattle.early_bus.specs.Storing.{word_stored, packed_alone, rewrite_made}
 use Rattle.early_bus.specs.Cells.{values}

@@ -12,7 +12,7 @@ use Rattle.ft_cells.specs.WordCells.{CellState, fresh, FlipsCell, syndrome_of}
 use Rattle.ft_cells.specs.declared.flipped.Flipped.{Flipped}
 use Rattle.ft_cells.specs.declared.flipped.Flipped.TheVariants.{Applied, Declined}
 use Rattle.ft_cells.proofs.ToggleLemmas.{filter-same}
-use Rattle.coded_words.specs.Inside.{IsCellOf}
+use Rattle.ft_cells.specs.Histories.{IsCellOf}
 
 -- a place at or above the width is not among those that pass a test
 has_place-above : (width : ℕ) (p : ℕ → Bool) (place : ℕ) → width ≤ place → has_place (filter p (places_below width)) place ≡ false
