@@ -1,0 +1,5 @@
+pub mod ByteRows
+pub mod UnitLemmas
+pub mod SlotLemmas
+pub mod AccessLemmas
+pub mod RangeLemmas
