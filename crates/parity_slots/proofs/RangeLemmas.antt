@@ -10,13 +10,14 @@ use Rattle.parity_slots.specs.SlotState.{number_of}
 
 module _ (p : ℕ → Bool) where
   -- none of the places passed, and the next one doesn't
-  pub any_more : (a n : ℕ) → list_any p (range_with_len a n) ≡ false → p (a + n) ≡ false → list_any p (range_with_len a (n + 1)) ≡ false
+  pub any_more : (a n : ℕ) → list_any p (range_with_len a n) ≡ false → p (a + n) ≡ false → list_any p (range_with_len a (suc n)) ≡ false
   any_more a zero none next = ap (λ (b : Bool). b || false) (subst (λ (i : ℕ). p i ≡ false) (omega arith) next)
-  any_more a (suc n) none next = both (p a) none
+  any_more a (suc n) none next = both (p a) none (λ e. any_more (a + 1) n e (subst (λ (i : ℕ). p i ≡ false) (omega arith) next))
     where
-      both : (b : Bool) → (b || list_any p (range_with_len (a + 1) n)) ≡ false → (b || list_any p (range_with_len (a + 1) (suc n))) ≡ false
-      both true e = e
-      both false e = any_more (a + 1) n e (subst (λ (i : ℕ). p i ≡ false) (omega arith) next)
+      both : (b : Bool) → (b || list_any p (range_with_len (a + 1) n)) ≡ false → (list_any p (range_with_len (a + 1) n) ≡ false → list_any p (range_with_len (a + 1) (suc n)) ≡ false)
+          → (b || list_any p (range_with_len (a + 1) (suc n))) ≡ false
+      both true e later = e
+      both false e later = later e
 
   -- one passes
   pub any_found : (a n i : ℕ) → i < n → p (a + i) ≡ true → list_any p (range_with_len a n) ≡ true
@@ -37,19 +38,19 @@ module _ (p : ℕ → Bool) where
       cases false e = refl
 
 -- a run with one place more
-pub range_more : (a n : ℕ) → range_with_len a (n + 1) ≡ range_with_len a n ++ (a + n) ∷ []
+pub range_more : (a n : ℕ) → range_with_len a (suc n) ≡ range_with_len a n ++ (a + n) ∷ []
 range_more a zero = ap (λ (i : ℕ). i ∷ []) (omega arith)
 range_more a (suc n) = ap (λ (rest : List ℕ). a ∷ rest) (range_more (a + 1) n ∙ ap (λ (i : ℕ). range_with_len (a + 1) n ++ i ∷ []) (omega arith))
 
 filter-append : (p : ℕ → Bool) (xs ys : List ℕ) → filter p (xs ++ ys) ≡ filter p xs ++ filter p ys
 filter-append p [] ys = refl
-filter-append p (x ∷ xs) ys = one (p x)
+filter-append p (x ∷ xs) ys = one (p x) (filter-append p xs ys)
   where
-    one : (b : Bool) → cond b (x ∷ filter p (xs ++ ys)) (filter p (xs ++ ys)) ≡ cond b (x ∷ filter p xs) (filter p xs) ++ filter p ys
-    one true = ap (λ (rest : List ℕ). x ∷ rest) (filter-append p xs ys)
-    one false = filter-append p xs ys
+    one : (b : Bool) → filter p (xs ++ ys) ≡ filter p xs ++ filter p ys → cond b (x ∷ filter p (xs ++ ys)) (filter p (xs ++ ys)) ≡ cond b (x ∷ filter p xs) (filter p xs) ++ filter p ys
+    one true e = ap (λ (rest : List ℕ). x ∷ rest) e
+    one false e = e
 
-pub filtered_more : (p : ℕ → Bool) (a n : ℕ) → filter p (range_with_len a (n + 1)) ≡ filter p (range_with_len a n) ++ cond (p (a + n)) ((a + n) ∷ []) []
+pub filtered_more : (p : ℕ → Bool) (a n : ℕ) → filter p (range_with_len a (suc n)) ≡ filter p (range_with_len a n) ++ cond (p (a + n)) ((a + n) ∷ []) []
 filtered_more p a n = ap (filter p) (range_more a n) ∙ filter-append p (range_with_len a n) ((a + n) ∷ [])
 
 -- ---- the number of some bytes
