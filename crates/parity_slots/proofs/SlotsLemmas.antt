@@ -1,16 +1,20 @@
 -- The slots of a cache stay kept as one of them changes.
-use Rattle.std.proofs.Common.{◌≡◌, ℕ, ◌+◌, ◌*◌, ◌<◌, ◌≤◌, List, [], length, map, slice_index_or, slice_set, refl, sym, ap, ◌∙◌, subst, arith}
-use Rattle.std.proofs.lemmas.List.{get_or-map, length-map, length-set, map-set, set-get_or}
-use Rattle.flip_ledger.specs.Follows.{Follows, Keeps}
-use Rattle.flip_ledger.specs.Ledger.{Ledger}
-use Rattle.lf_model.specs.Caches.Slot.{Slot, empty_slot}
-use Rattle.lf_model.specs.Flips.{Moment, byte_budget}
+use Rattle.std.proofs.Common.{◌≡◌, ◌≢◌, ℕ, zero, suc, ◌+◌, ◌*◌, ◌-◌, ◌/◌, ◌%◌, ◌<◌, ◌≤◌, Bool, true, false, cond, nat_lt, inl, inr, List, [], ◌∷◌, length, map, slice_index_or, slice_set, refl, sym, ap, ◌∙◌, subst, arith}
+use Rattle.std.proofs.lemmas.List.{get_or-map, get_or-set_same, get_or-set_other, length-map, length-set, map-set, set-get_or}
+use Rattle.std.specs.Prelude.{replicate}
+use Rattle.std.proofs.lemmas.Bool.{cases_eq}
+use Rattle.flip_ledger.specs.Follows.{Gains, Follows, Keeps, number_of}
+use Rattle.flip_ledger.specs.Ledger.{Ledger, standing_in}
+use Rattle.lf_model.specs.Caches.Slot.{Slot, empty_slot, history_at}
+use Rattle.lf_model.specs.Flips.{Moment, standing, byte_budget, is_struck_byte}
+use Rattle.lf_model.specs.Flips.Moment.{Struck}
 use Rattle.parity_slots.specs.Kept.{slot_of, bytes_of_slot, seen, most_slots, IsKept}
-use Rattle.parity_slots.specs.SlotState.{SlotState}
+use Rattle.parity_slots.specs.SlotState.{SlotState, empty_state}
 use Rattle.parity_slots.specs.SlotsState.{SlotsState, slot_in, line_in, state_in, changed, with_state}
-use Rattle.parity_slots.specs.Units.{slot_units, with_units, histories_of}
+use Rattle.parity_slots.specs.Units.{slot_units, unit_of, with_units, histories_of}
 use Rattle.parity_slots.specs.declared.cache_slots.Slots.TheInside.{Inside}
-use Rattle.parity_slots.proofs.UnitLemmas.{histories_here, histories_set}
+use Rattle.parity_units.specs.Bytes.{answer_of}
+use Rattle.parity_slots.proofs.UnitLemmas.{histories_at, histories_here, histories_set}
 
 -- the slot that is read at a place
 module _ (s : Inside) (i : ℕ) {now : SlotState} (read : now ≡ slice_index_or s.slots.items i now) (within : i < length s.slots.items) where
@@ -69,3 +73,72 @@ module _ (s : Inside) (i : ℕ) {now : SlotState} (read : now ≡ slice_index_or
       (ap bytes_of_slot is ∙ sym line_here)
       ∙ ap (λ (lines : List (List ℕ)). record { slots = slice_set (map slot_of s.slots.items) i (change (slot_in i (seen s))); lines = lines; flips = length s.ledger.flips })
       (set-get_or (map bytes_of_slot s.slots.items) i [])
+
+  -- ---- a flip of a unit
+
+  pub answer_noted : IsKept s → (u : ℕ) → u < slot_units → answer_of (is_struck_byte (unit_of now.slot u)) ≡ answer_of (nat_lt 0 (length (standing_in s.ledger (slot_units * i + u))))
+  answer_noted kept u lt =
+      let unit : ℕ = slot_units * i + u in
+      let fits : slot_units * i + u < length s.ledger.standing = omega (arith, kept.units, within, lt) in
+      let is : histories_of (map slot_of s.slots.items) (slot_units * i + u) ≡ unit_of now.slot u = histories_at (map slot_of s.slots.items) i u lt ∙ ap (λ (slot : Slot). unit_of slot u) slot_here in
+      ap (λ (h : List Moment). answer_of (is_struck_byte h)) (sym is)
+      ∙ ap (λ (n : ℕ). answer_of (nat_lt 0 n))
+      (sym (length-map (standing byte_budget (histories_of (map slot_of s.slots.items) (slot_units * i + u))) number_of)
+      ∙ ap (length {A = ℕ}) (sym (kept.follows.standing_is (slot_units * i + u) fits)))
+
+  pub gains_unit : (new : SlotState) (u number bit : ℕ) → u < slot_units → Gains u (Struck number bit) (unit_of now.slot) (unit_of new.slot)
+      → Gains (slot_units * i + u) (Struck number bit) (histories_of (map slot_of s.slots.items)) (histories_of (map slot_of (slice_set s.slots.items i new)))
+  gains_unit new u number bit lt gains = record {
+    here =
+        at_new u lt
+        ∙ gains.here
+        ∙ ap (λ (x : List Moment). Struck number bit ∷ x) (sym (at_old u lt));
+    others = λ w other. elim (cases_eq (w / slot_units) i) [
+      | inl same ↦
+          let is : slot_units * i + w % slot_units ≡ w = omega (arith, same) in
+          let apart : w % slot_units ≢ u = λ e. other (sym is ∙ ap (λ (r : ℕ). slot_units * i + r) e) in
+          let small : w % slot_units < slot_units = omega arith in
+          subst (λ (v : ℕ). histories_of (map slot_of (slice_set s.slots.items i new)) v ≡ histories_of (map slot_of s.slots.items) v) is
+          (at_new (w % slot_units) small ∙ gains.others (w % slot_units) apart ∙ sym (at_old (w % slot_units) small))
+      | inr elsewhere ↦
+          ap (λ (slots : List Slot). histories_of slots w) (map-set slot_of s.slots.items i new)
+          ∙ ap (λ (slot : Slot). unit_of slot (w % slot_units)) (get_or-set_other (map slot_of s.slots.items) i (w / slot_units) new.slot empty_slot elsewhere)
+    ];
+  }
+    where
+      at_old : (k : ℕ) → k < slot_units → histories_of (map slot_of s.slots.items) (slot_units * i + k) ≡ unit_of now.slot k
+      at_old k few = histories_at (map slot_of s.slots.items) i k few ∙ ap (λ (slot : Slot). unit_of slot k) slot_here
+
+      at_new : (k : ℕ) → k < slot_units → histories_of (map slot_of (slice_set s.slots.items i new)) (slot_units * i + k) ≡ unit_of new.slot k
+      at_new k few =
+          ap (λ (slots : List Slot). histories_of slots (slot_units * i + k)) (map-set slot_of s.slots.items i new)
+          ∙ histories_at (slice_set (map slot_of s.slots.items) i new.slot) i k few
+          ∙ ap (λ (slot : Slot). unit_of slot k) (get_or-set_same (map slot_of s.slots.items) i new.slot empty_slot (omega (arith, within, length-map s.slots.items slot_of)))
+
+-- ---- slots at reset
+
+pub slots_of_reset : (n : ℕ) → map slot_of (replicate n empty_state) ≡ replicate n empty_slot
+slots_of_reset zero = refl
+slots_of_reset (suc n) = ap (λ (slots : List Slot). empty_slot ∷ slots) (slots_of_reset n)
+
+pub lines_of_reset : (n : ℕ) → map bytes_of_slot (replicate n empty_state) ≡ replicate n (replicate 32 0)
+lines_of_reset zero = refl
+lines_of_reset (suc n) = ap (λ (lines : List (List ℕ)). replicate 32 0 ∷ lines) (lines_of_reset n)
+
+empty_at : (n i : ℕ) → slice_index_or (replicate n empty_slot) i empty_slot ≡ empty_slot
+empty_at zero i = refl
+empty_at (suc n) zero = refl
+empty_at (suc n) (suc i) = empty_at n i
+
+nothing_at : (n i : ℕ) → history_at i (replicate n []) ≡ []
+nothing_at zero i = refl
+nothing_at (suc n) zero = refl
+nothing_at (suc n) (suc i) = nothing_at n i
+
+pub empty_histories : (n unit : ℕ) → histories_of (replicate n empty_slot) unit ≡ []
+empty_histories n unit =
+    ap (λ (slot : Slot). unit_of slot (unit % slot_units)) (empty_at n (unit / slot_units)) ∙ either (nat_lt (unit % slot_units) 4)
+  where
+    either : (b : Bool) → cond b (history_at (unit % slot_units) (replicate 4 [])) (history_at (unit % slot_units - 4) (replicate 32 [])) ≡ []
+    either true = nothing_at 4 (unit % slot_units)
+    either false = nothing_at 32 (unit % slot_units - 4)

@@ -5,7 +5,10 @@ use Rattle.std.proofs.Math.Path.{fun_ext}
 use Rattle.std.proofs.lemmas.Bool.{cases_eq, cases_lt, lt-ltb, le-ltb}
 use Rattle.std.proofs.lemmas.List.{get_or-map, get_or-set_same, get_or-set_other, length-set, set_past}
 use Rattle.lf_model.specs.Caches.Slot.{Slot, empty_slot, history_at, befalls, befalls_each}
+use Rattle.flip_ledger.specs.Follows.{Gains}
 use Rattle.lf_model.specs.Flips.{Moment}
+use Rattle.lf_model.specs.Flips.Moment.{Struck}
+use Rattle.parity_slots.specs.SlotState.{tag_flipped, line_flipped}
 use Rattle.parity_slots.specs.Units.{slot_units, unit_of, with_units, histories_of}
 use Rattle.parity_units.specs.Events.{over}
 use Rattle.parity_units.proofs.EventLemmas.{over_below, over_within, over_above}
@@ -19,6 +22,9 @@ unit_line : (slot : Slot) (k : ℕ) → unit_of slot (k + 4) ≡ history_at k sl
 unit_line slot k =
     ap (λ (b : Bool). cond b (history_at (k + 4) slot.tag_histories) (history_at (k + 4 - 4) slot.line_histories)) (le-ltb (k + 4) 4 (omega arith))
     ∙ ap (λ (j : ℕ). history_at j slot.line_histories) (omega arith)
+
+unit_past : (slot : Slot) (u : ℕ) → 4 ≤ u → unit_of slot u ≡ history_at (u - 4) slot.line_histories
+unit_past slot u le = ap (λ (b : Bool). cond b (history_at u slot.tag_histories) (history_at (u - 4) slot.line_histories)) (le-ltb u 4 le)
 
 module _ (first : ℕ) (slot : Slot) (h : ℕ → List Moment) where
   pub with_below : (u : ℕ) → u < first → with_units first slot h u ≡ h u
@@ -141,6 +147,39 @@ over_line first place count slot h f all fits =
             ∙ sym (each_above f place count slot.line_histories k past)
       ]
     ]
+
+-- ---- a flip of one unit
+
+pub gains_tag : (slot : Slot) (place number bit : ℕ) → place < 4 → length slot.tag_histories ≡ 4 → Gains place (Struck number bit) (unit_of slot) (unit_of (tag_flipped place number bit slot))
+gains_tag slot place number bit lt all = record {
+  here =
+      unit_tag (tag_flipped place number bit slot) place lt
+      ∙ get_or-set_same slot.tag_histories place (Struck number bit ∷ history_at place slot.tag_histories) [] (omega (arith, lt, all))
+      ∙ ap (λ (x : List Moment). Struck number bit ∷ x) (sym (unit_tag slot place lt));
+  others = λ u other. elim (cases_lt u 4) [
+    | inl few ↦
+        unit_tag (tag_flipped place number bit slot) u few
+        ∙ get_or-set_other slot.tag_histories place u (Struck number bit ∷ history_at place slot.tag_histories) [] other
+        ∙ sym (unit_tag slot u few)
+    | inr many ↦ unit_past (tag_flipped place number bit slot) u many ∙ sym (unit_past slot u many)
+  ];
+}
+
+pub gains_line : (slot : Slot) (place number bit : ℕ) → place < 32 → length slot.line_histories ≡ 32 → Gains (place + 4) (Struck number bit) (unit_of slot) (unit_of (line_flipped place number bit slot))
+gains_line slot place number bit lt all = record {
+  here =
+      unit_line (line_flipped place number bit slot) place
+      ∙ get_or-set_same slot.line_histories place (Struck number bit ∷ history_at place slot.line_histories) [] (omega (arith, lt, all))
+      ∙ ap (λ (x : List Moment). Struck number bit ∷ x) (sym (unit_line slot place));
+  others = λ u other. elim (cases_lt u 4) [
+    | inl few ↦ unit_tag (line_flipped place number bit slot) u few ∙ sym (unit_tag slot u few)
+    | inr many ↦
+        let apart : u - 4 ≢ place = omega (arith, many, other) in
+        unit_past (line_flipped place number bit slot) u many
+        ∙ get_or-set_other slot.line_histories place (u - 4) (Struck number bit ∷ history_at place slot.line_histories) [] apart
+        ∙ sym (unit_past slot u many)
+  ];
+}
 
 -- ---- the slots of an array
 

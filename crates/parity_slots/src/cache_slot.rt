@@ -1,6 +1,7 @@
 ghost use Rattle.std.specs.Prelude.{◌≡◌, ◌+◌, ◌*◌, ◌/◌, ◌%◌, ◌^◌, ◌<◌, ◌≤◌, ◌==◌, false, ℕ, List, length, slice_index};
 ghost use Rattle.std.specs.List.{range_with_len};
-ghost use Rattle.flip_ledger.specs.Follows.{Follows, Keeps};
+ghost use Rattle.flip_ledger.specs.Follows.{Gains, Follows, Keeps};
+ghost use Rattle.lf_model.specs.Flips.Moment.{Struck};
 ghost use Rattle.lf_model.specs.Caches.Change.{stored_in};
 ghost use Rattle.lf_model.specs.Caches.Slot.{is_present, holds, is_valid_word, has_wanted_words, has_struck_byte, has_struck_tag, dropped, dropped_by_tag, dropped_by_byte, filled_slot, checked_byte, befalls_each};
 ghost use Rattle.lf_model.specs.Flips.{Moment, byte_budget};
@@ -338,6 +339,7 @@ impl Slot {
         requires bit { bit < byte_bits }
         ensures answer { result ≡ flip_answer (unit_of self.old.slot place) }
         ensures struck { self.new ≡ tag_struck place number bit self.old }
+        ensures gains { Gains place (Struck number bit) (unit_of self.old.slot) (unit_of self.new.slot) }
     {
         let mut byte = self.tag[place];
         let answer = byte.flip(bit);
@@ -352,6 +354,7 @@ impl Slot {
         requires bit { bit < byte_bits }
         ensures answer { result ≡ flip_answer (unit_of self.old.slot (place + 4)) }
         ensures struck { self.new ≡ line_struck place number bit self.old }
+        ensures gains { Gains (place + 4) (Struck number bit) (unit_of self.old.slot) (unit_of self.new.slot) }
     {
         let mut byte = self.line[place];
         let answer = byte.flip(bit);

@@ -4,6 +4,7 @@ use Rattle.lf_model.specs.Course.Arrays.{struck_by}
 use Rattle.parity_units.specs.Bytes.{flipped_byte}
 use Rattle.parity_units.specs.Events.{byte_at}
 use Rattle.parity_slots.proofs.ByteRows.{row_byte_struck}
+use Rattle.parity_slots.proofs.UnitLemmas.{gains_line}
 use Rattle.parity_slots.proofs.cache_slot.Slot.flip_line.Goals as goal
 
 pub invariant_of-self : goal.invariant_of-self
@@ -19,3 +20,9 @@ invariant_of-self c =
       last_written = is.last_written;
       last_used = is.last_used;
     })
+
+pub returns-clause-gains : goal.returns-clause-gains
+returns-clause-gains c =
+    let inside = c.self.inside in
+    let is = c.self.invariant in
+    rw (← c.self.view_is, c.change.ensures.value) (gains_line inside.state.slot c.args.place c.args.number c.args.bit c.requires.place (is.line_bytes.all_histories ∙ is.line_length))
