@@ -105,11 +105,14 @@ impl ParityCache {
         ensures dropped { result ≡ (checked addr self.old.cache).dropped }
         ensures checked { self.new ≡ with_cache (checked addr self.old.cache).cache self.old }
         ensures clean { IsCleanSet addr self.new.cache }
+        ensures shape { self.new.cache.shape ≡ self.old.cache.shape }
     {
         let first = self.first_slot(addr);
         let mut dropped = false;
         for way in 0..self.shape.ways as usize {
-            dropped = self.check_way(first + way) || dropped;
+            if self.check_way(first + way) {
+                dropped = true;
+            }
         }
         dropped
     }
