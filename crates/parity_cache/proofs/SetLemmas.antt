@@ -4,16 +4,16 @@ use Rattle.std.specs.Prelude.{find, fold}
 use Rattle.std.specs.List.{list_any, range_with_len}
 use Rattle.std.proofs.lemmas.Grind.{fold-append}
 use Rattle.std.proofs.lemmas.List.{length-set, get_or-set_same, get_or-set_other}
-use Rattle.lf_model.specs.Caches.Cache.{Cache, slot_at, with_slot, raised}
-use Rattle.lf_model.specs.Caches.Change.{older}
-use Rattle.lf_model.specs.Caches.Look.{Checked, check_way, LookUp}
+use Rattle.lf_model.specs.Caches.Cache.{Cache, slot_at, with_slot, matching, raised}
+use Rattle.lf_model.specs.Caches.Change.{older, updated, drop_by, snooped, victim, filled}
+use Rattle.lf_model.specs.Caches.Look.{Checked, check_way, checked, LookUp, look_by, look}
 use Rattle.lf_model.specs.Caches.Look.LookUp.{Hit as Hits, Miss as Misses}
 use Rattle.lf_model.specs.Caches.Slot.{Slot, empty_slot, written, checked_byte, dropped, dropped_by_tag, has_struck_tag}
 use Rattle.lf_model.specs.Flips.{Moment, is_struck_byte}
 use Rattle.lf_model.specs.declared.config.Shape.{Shape}
 use Rattle.parity_slots.specs.SlotState.{value_at}
 use Rattle.parity_slots.proofs.RangeLemmas.{range_more}
-use Rattle.parity_cache.specs.CacheState.{CacheState, line_at, with_cache, answer_of}
+use Rattle.parity_cache.specs.CacheState.{CacheState, line_at, with_cache, answer_of, victim_by, filled_in, filled_cache, stored_by, stored_cache}
 use Rattle.parity_cache.specs.declared.look.Look.TheVariants.{Hit}
 
 -- ---- the first slot of a set that passes a test
@@ -82,6 +82,9 @@ module _ (cache : Cache) (i : ℕ) (within : i < length cache.slots) where
   pub way_shape : (check_way (record { dropped = false; cache = cache }) i).cache.shape ≡ cache.shape
   way_shape = cases_way (λ c. c.shape ≡ cache.shape) (λ e. refl) refl
 
+  pub way_uses : (check_way (record { dropped = false; cache = cache }) i).cache.uses ≡ cache.uses
+  way_uses = cases_way (λ c. c.uses ≡ cache.uses) (λ e. refl) refl
+
 -- the ways from the first on
 abbrev pub checked_from : ℕ → ℕ → Cache → Checked
 checked_from first count cache = fold check_way (record { dropped = false; cache = cache }) (range_with_len first count)
@@ -129,3 +132,26 @@ dropped_all (suc n) (slot ∷ slots) le = ap (λ (rest : List Slot). dropped slo
 pub answer_same : (addr len : ℕ) (s : CacheState) (cache : Cache) (found : LookUp) → cache.shape ≡ s.cache.shape → answer_of addr len (with_cache cache s) found ≡ answer_of addr len s found
 answer_same addr len s cache (Hits i) same = ap (λ (shape : Shape). Hit (value_at addr len (line_at i s)) (i % shape.ways)) same
 answer_same addr len s cache (Misses why) same = refl
+
+-- ---- after the tag check, by the slot in which the line is present
+
+pub victim_is : (addr : ℕ) (cache : Cache) (found : Option ℕ) → found ≡ matching addr cache → victim_by addr cache found ≡ victim addr cache
+unfolding victim
+victim_is addr cache found is = ap (victim_by addr cache) is
+
+pub look_is : (addr len : ℕ) (cache : Cache) (found : Option ℕ) → found ≡ matching addr (checked addr cache).cache → look addr len cache ≡ look_by addr len (checked addr cache) found
+unfolding look
+look_is addr len cache found is = ap (look_by addr len (checked addr cache)) (sym is)
+
+pub snooped_is : (addr : ℕ) (cache : Cache) (found : Option ℕ) → found ≡ matching addr (checked addr cache).cache → snooped cache addr ≡ drop_by (checked addr cache).cache found
+unfolding snooped
+snooped_is addr cache found is = ap (drop_by (checked addr cache).cache) (sym is)
+
+pub stored_is : (addr len value : ℕ) (s : CacheState) (found : Option ℕ) → found ≡ matching addr (checked addr s.cache).cache
+    → stored_by addr len value (with_cache (checked addr s.cache).cache s) found ≡ stored_cache addr len value s
+unfolding updated
+stored_is addr len value s found is = ap (stored_by addr len value (with_cache (checked addr s.cache).cache s)) is
+
+pub filled_is : (addr valid : ℕ) (words : List ℕ) (s : CacheState) → filled_in (victim addr s.cache) addr valid words s ≡ filled_cache addr valid words s
+unfolding filled
+filled_is addr valid words s = refl

@@ -1,10 +1,11 @@
 -- A cache with the bytes of its lines.
-use Rattle.std.specs.Prelude.{◌≡◌, ℕ, ◌+◌, ◌*◌, ◌/◌, ◌%◌, ◌^◌, ◌<◌, false, if◌then◌else◌, ◌≤◌, ◌∷◌, [], List, Option, Some, None, Contains, replicate, slice_index_or, slice_set}
-use Rattle.lf_model.specs.Caches.Cache.{Cache, empty_cache, slot_at, matching, way_of}
-use Rattle.lf_model.specs.Caches.Change.{stored_bytes, updated, victim, filled}
+use Rattle.std.specs.Prelude.{◌≡◌, ℕ, ◌+◌, ◌*◌, ◌/◌, ◌%◌, ◌^◌, ◌<◌, false, if◌then◌else◌, ◌≤◌, ◌∷◌, [], List, Option, Some, None, not, find, fold, unwrap_or, replicate, slice_index_or, slice_set}
+use Rattle.std.specs.Option.{option_or}
+use Rattle.lf_model.specs.Caches.Cache.{Cache, empty_cache, slot_at, with_slot, set_of, matching, way_of, used}
+use Rattle.lf_model.specs.Caches.Change.{stored_bytes, update_by, updated, older, victim, filled}
 use Rattle.lf_model.specs.Caches.Look.{LookUp, checked}
 use Rattle.lf_model.specs.Caches.Look.LookUp.{Hit as Hits, Miss as Misses}
-use Rattle.lf_model.specs.Caches.Slot.{history_at, has_struck_tag}
+use Rattle.lf_model.specs.Caches.Slot.{history_at, is_present, filled_slot, has_struck_tag}
 use Rattle.lf_model.specs.Course.Arrays.{struck_tag, struck_line}
 use Rattle.lf_model.specs.Flips.{Moment}
 use Rattle.lf_model.specs.declared.config.Shape.{Shape}
@@ -40,20 +41,30 @@ abbrev pub answer_of : ℕ → ℕ → CacheState → LookUp → Look
 answer_of addr len s (Hits i) = Hit (value_at addr len (line_at i s)) (way_of i s.cache)
 answer_of addr len s (Misses why) = Miss why
 
--- a fill writes a whole line, and an own store its bytes in the words that are valid
-abbrev pub lines_filled : ℕ → List ℕ → CacheState → List (List ℕ)
-lines_filled addr words s = slice_set s.lines (victim addr s.cache) (bytes_of words)
+-- the slot that a fill takes, by that in which its line is present
+abbrev pub victim_by : ℕ → Cache → Option ℕ → ℕ
+victim_by addr cache found = unwrap_or (option_or found
+    (option_or (find (λ i. not (is_present (slot_at i cache))) (set_of addr cache)) (fold (older cache) None (set_of addr cache)))) 0
 
-abbrev pub lines_stored : ℕ → ℕ → ℕ → CacheState → Cache → Option ℕ → List (List ℕ)
-lines_stored addr len value s cache None = s.lines
-lines_stored addr len value s cache (Some i) = slice_set s.lines i (bytes_stored addr len value (stored_bytes addr len (slot_at i cache)) (line_at i s))
+-- a fill writes the whole line of its slot
+abbrev pub filled_in : ℕ → ℕ → ℕ → List ℕ → CacheState → CacheState
+filled_in i addr valid words s = record s { cache = used i (with_slot (filled_slot addr valid) i s.cache); lines = slice_set s.lines i (bytes_of words) }
 
 abbrev pub filled_cache : ℕ → ℕ → List ℕ → CacheState → CacheState
-filled_cache addr valid words s = record s { cache = filled addr valid s.cache; lines = lines_filled addr words s }
+filled_cache addr valid words s = record s { cache = filled addr valid s.cache; lines = slice_set s.lines (victim addr s.cache) (bytes_of words) }
+
+-- an own store writes its bytes where its line is present, in the words that are valid
+abbrev pub lines_stored : ℕ → ℕ → ℕ → CacheState → Option ℕ → List (List ℕ)
+lines_stored addr len value s None = s.lines
+lines_stored addr len value s (Some i) = slice_set s.lines i (bytes_stored addr len value (stored_bytes addr len (slot_at i s.cache)) (line_at i s))
+
+-- after the tag check
+abbrev pub stored_by : ℕ → ℕ → ℕ → CacheState → Option ℕ → CacheState
+stored_by addr len value s found = record s { cache = update_by addr len s.cache found; lines = lines_stored addr len value s found }
 
 abbrev pub stored_cache : ℕ → ℕ → ℕ → CacheState → CacheState
-stored_cache addr len value s = let cache = (checked addr s.cache).cache in
-    record s { cache = updated addr len s.cache; lines = lines_stored addr len value s cache (matching addr cache) }
+stored_cache addr len value s = let checked_state = with_cache (checked addr s.cache).cache s in
+    record s { cache = updated addr len s.cache; lines = lines_stored addr len value checked_state (matching addr checked_state.cache) }
 
 -- no tag byte of the set of an address is struck
 abbrev pub IsCleanSet : ℕ → Cache → Type 0

@@ -1,13 +1,13 @@
-ghost use Rattle.std.specs.Prelude.{◌≡◌, ◌+◌, ◌*◌, ◌/◌, ◌%◌, ◌^◌, ◌<◌, ◌≤◌, ◌==◌, true, false, not, ℕ, Some, None, fold, find, length, IfOk, IfSome};
+ghost use Rattle.std.specs.Prelude.{◌≡◌, ◌+◌, ◌*◌, ◌/◌, ◌%◌, ◌^◌, ◌<◌, ◌≤◌, ◌==◌, true, false, not, ℕ, Some, None, fold, find, length, if◌then◌else◌, IfOk, IfSome};
 ghost use Rattle.flip_ledger.specs.Follows.{has_struck};
-ghost use Rattle.lf_model.specs.Caches.Cache.{Cache, slot_at, set_of, matching, way_of, raised, used};
+ghost use Rattle.lf_model.specs.Caches.Cache.{Cache, slot_at, with_slot, set_of, matching, way_of, raised, used};
 ghost use Rattle.lf_model.specs.Caches.Change.{older, victim, snooped, flushed};
 ghost use Rattle.lf_model.specs.Caches.Look.{check_way, checked, look, look_in};
-ghost use Rattle.lf_model.specs.Caches.Slot.{holds, is_present, has_struck_tag};
+ghost use Rattle.lf_model.specs.Caches.Slot.{holds, is_present, has_struck_tag, dropped};
 ghost use Rattle.lf_model.specs.Fates.{fate_of};
 ghost use Rattle.lf_model.specs.Flips.{byte_budget};
 ghost use Rattle.lf_model.specs.declared.trace.Fate.TheVariants.{Late};
-ghost use Rattle.parity_cache.specs.CacheState.{IsCacheShape, reset_cache, with_cache, answer_of, filled_cache, stored_cache, IsUnit, slot_of_unit, history_of_unit, struck_at, IsCleanSet};
+ghost use Rattle.parity_cache.specs.CacheState.{IsCacheShape, reset_cache, with_cache, answer_of, filled_in, filled_cache, stored_by, stored_cache, victim_by, IsUnit, slot_of_unit, history_of_unit, struck_at, IsCleanSet};
 ghost use Rattle.parity_slots.specs.SlotState.{IsAccess, flip_answer};
 ghost use Rattle.parity_slots.specs.SlotsState.{IsToCome};
 ghost use Rattle.parity_slots.specs.Units.{slot_units, histories_of};
@@ -29,6 +29,13 @@ fn raised(count: u8) -> u8
     ensures few { result ≤ 3 }
 {
     if count < 3 { count + 1 } else { count }
+}
+
+/// Why a look-up misses where no line matches: a tag where the check dropped a way.
+fn absent_cause(dropped: bool) -> Why
+    ensures { result ≡ (if dropped then Why.Tag else Why.Absent) }
+{
+    if dropped { Why::Tag } else { Why::Absent }
 }
 
 /// A parity cache, and what became of the flips of the script that are for it.
@@ -106,6 +113,7 @@ impl ParityCache {
         ensures checked { self.new ≡ with_cache (checked addr self.old.cache).cache self.old }
         ensures clean { IsCleanSet addr self.new.cache }
         ensures shape { self.new.cache.shape ≡ self.old.cache.shape }
+        ensures uses { self.new.cache.uses ≡ self.old.cache.uses }
     {
         let first = self.first_slot(addr);
         let mut dropped = false;
@@ -183,13 +191,21 @@ impl ParityCache {
         ensures slot { result ≡ victim addr self.now.cache }
         ensures within { result < length self.now.cache.slots }
     {
-        if let Some(i) = self.filled_slot(addr) {
-            return i;
+        match self.filled_slot(addr) {
+            Some(i) => i,
+            None => self.victim_of_others(addr),
         }
-        if let Some(i) = self.empty_slot(addr) {
-            return i;
+    }
+
+    /// The slot that a fill takes where its line is not present.
+    fn victim_of_others(&self, addr: u32) -> usize
+        ensures slot { result ≡ victim_by addr self.now.cache None }
+        ensures within { result < length self.now.cache.slots }
+    {
+        match self.empty_slot(addr) {
+            Some(i) => i,
+            None => self.oldest_slot(addr),
         }
-        self.oldest_slot(addr)
     }
 
     /// The slot becomes the most recently used.
@@ -214,8 +230,7 @@ impl ParityCache {
         let dropped = self.check_set(addr);
         match self.matching(addr) {
             Some(i) => self.look_in(i, addr, len),
-            None if dropped => Look::Miss(Why::Tag),
-            None => Look::Miss(Why::Absent),
+            None => Look::Miss(absent_cause(dropped)),
         }
     }
 
@@ -263,6 +278,16 @@ impl ParityCache {
         ensures { self.new ≡ filled_cache line valid words.now self.old }
     {
         let i = self.victim_slot(line);
+        self.fill_slot(i, line, words, valid);
+    }
+
+    /// A slot is filled.
+    fn fill_slot(&mut self, i: usize, line: u32, words: &[u32], valid: u8)
+        requires slot { i < length self.old.cache.slots }
+        requires words { length words.now ≡ 8 }
+        requires room { self.old.cache.uses + 1 < 2 ^ 32 }
+        ensures { self.new ≡ filled_in i line valid words.now self.old }
+    {
         self.slots.fill(i, line, valid, words);
         self.use_slot(i);
     }
@@ -274,10 +299,22 @@ impl ParityCache {
         ensures { self.new ≡ stored_cache addr len value self.old }
     {
         self.check_set(addr);
-        if let Some(i) = self.matching(addr) {
-            self.slots.store(i, addr, len, value);
-            self.use_slot(i);
+        match self.matching(addr) {
+            Some(i) => self.store_in(i, addr, len, value),
+            None => {}
         }
+    }
+
+    /// A store of this core writes its bytes to the line in a slot.
+    fn store_in(&mut self, i: usize, addr: u32, len: u8, value: u64)
+        requires slot { i < length self.old.cache.slots }
+        requires unstruck { has_struck_tag (slot_at i self.old.cache) ≡ false }
+        requires access { IsAccess addr len }
+        requires room { self.old.cache.uses + 1 < 2 ^ 32 }
+        ensures { self.new ≡ stored_by addr len value self.old (Some i) }
+    {
+        self.slots.store(i, addr, len, value);
+        self.use_slot(i);
     }
 
     /// Snoops a store at an address: where its line is present, it is dropped.
@@ -285,9 +322,18 @@ impl ParityCache {
         ensures { self.new ≡ with_cache (snooped self.old.cache addr) self.old }
     {
         self.check_set(addr);
-        if let Some(i) = self.matching(addr) {
-            self.slots.drop_line(i);
+        match self.matching(addr) {
+            Some(i) => self.drop_slot(i),
+            None => {}
         }
+    }
+
+    /// The line in a slot is dropped.
+    fn drop_slot(&mut self, i: usize)
+        requires { i < length self.old.cache.slots }
+        ensures { self.new ≡ with_cache (with_slot dropped i self.old.cache) self.old }
+    {
+        self.slots.drop_line(i);
     }
 
     /// Drops every line, without a check (FLUSH).

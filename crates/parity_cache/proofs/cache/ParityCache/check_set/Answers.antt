@@ -6,7 +6,7 @@ use Rattle.lf_model.specs.Caches.Cache.{Cache, slot_at}
 use Rattle.lf_model.specs.Caches.Look.{Checked, check_way, checked}
 use Rattle.lf_model.specs.Caches.Slot.{has_struck_tag}
 use Rattle.parity_cache.specs.CacheState.{CacheState, with_cache}
-use Rattle.parity_cache.proofs.SetLemmas.{checked_from, checked_next, checked_step, way_clean, way_others, way_slots, way_shape}
+use Rattle.parity_cache.proofs.SetLemmas.{checked_from, checked_next, checked_step, way_clean, way_others, way_slots, way_shape, way_uses}
 use Rattle.parity_cache.proofs.cache.ParityCache.check_set.Goals as goal
 use Rattle.parity_cache.proofs.cache.ParityCache.check_set.Goals.{then-check_way, else-check_way}
 
@@ -42,12 +42,14 @@ loop-way-preserved c =
     ]) in
     let all_slots = ap (λ (t : CacheState). length t.cache.slots) c.check_way.ensures.checked ∙ way_slots c.loop-way.self.cache i within ∙ inv.slots in
     let same_shape = ap (λ (t : CacheState). t.cache.shape) c.check_way.ensures.checked ∙ way_shape c.loop-way.self.cache i within ∙ inv.shape in
+    let same_uses = ap (λ (t : CacheState). t.cache.uses) c.check_way.ensures.checked ∙ way_uses c.loop-way.self.cache i within ∙ inv.uses in
     elim c.if-check_way.branch [
       | then-check_way w ↦ rw w.dropped-is (record {
         dropped = sym (ap (λ (c : Checked). c.dropped) step ∙ ap (λ (b : Bool). b || k.dropped) (struck ∙ w.if-check_way.true));
         checked = is_checked;
         clean = is_clean;
         slots = all_slots;
+        uses = same_uses;
         shape = same_shape;
       })
       | else-check_way w ↦ rw w.dropped-is (record {
@@ -55,6 +57,7 @@ loop-way-preserved c =
         checked = is_checked;
         clean = is_clean;
         slots = all_slots;
+        uses = same_uses;
         shape = same_shape;
       })
     ]
@@ -75,4 +78,5 @@ returns c =
           let below : w < c.loop-way.way = rw all (rw inv.shape at lt) in
           rw (inv.shape, ← c.first_slot-first.ensures.first) (inv.clean w below);
       shape = inv.shape;
+      uses = inv.uses;
     }

@@ -11,5 +11,6 @@ invariant-loop-way l = record {
   checked : l.self ≡ with_cache (checked_from l.first l.way l.initial.self.cache).cache l.initial.self;
   clean : (w : ℕ) → w < l.way → has_struck_tag (slot_at (l.first + w) l.self.cache) ≡ false;
   slots : length l.self.cache.slots ≡ length l.initial.self.cache.slots;
+  uses : l.self.cache.uses ≡ l.initial.self.cache.uses;
   shape : l.self.cache.shape ≡ l.initial.self.cache.shape;
 }
