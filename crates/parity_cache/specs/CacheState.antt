@@ -1,5 +1,5 @@
 -- A cache with the bytes of its lines.
-use Rattle.std.specs.Prelude.{◌≡◌, ℕ, ◌+◌, ◌*◌, ◌/◌, ◌%◌, ◌^◌, ◌<◌, false, if◌then◌else◌, ◌≤◌, ◌∷◌, [], List, Option, Some, None, not, find, fold, unwrap_or, replicate, slice_index_or, slice_set}
+use Rattle.std.specs.Prelude.{◌≡◌, ℕ, ◌+◌, ◌*◌, ◌/◌, ◌%◌, ◌<◌, false, if◌then◌else◌, ◌≤◌, [], List, Option, Some, None, not, find, fold, unwrap_or, replicate, slice_index_or, slice_set}
 use Rattle.std.specs.Option.{option_or}
 use Rattle.lf_model.specs.Caches.Cache.{Cache, empty_cache, slot_at, with_slot, set_of, matching, way_of, used}
 use Rattle.lf_model.specs.Caches.Change.{stored_bytes, update_by, updated, older, victim, filled}

@@ -1,5 +1,5 @@
 -- How a cache is kept.
-use Rattle.std.specs.Prelude.{◌≡◌, ℕ, ◌*◌, ◌≤◌, length}
+use Rattle.std.specs.Prelude.{◌≡◌, ◌*◌, ◌≤◌, length}
 use Rattle.parity_cache.specs.CacheState.{CacheState, IsCacheShape}
 use Rattle.parity_cache.specs.declared.cache.ParityCache.TheInside.{Inside}
 

@@ -1,5 +1,5 @@
 -- What the words and bytes of an aligned access are.
-use Rattle.std.proofs.Common.{◌≡◌, ◌⊎◌, ℕ, zero, suc, ◌+◌, ◌*◌, ◌/◌, ◌%◌, ◌<◌, ◌≤◌, [], ◌∷◌, length, slice_index_or, Contains, sym, arith, inl, inr}
+use Rattle.std.proofs.Common.{◌≡◌, ◌⊎◌, ℕ, zero, suc, ◌+◌, ◌*◌, ◌/◌, ◌%◌, ◌<◌, ◌≤◌, [], ◌∷◌, slice_index_or, Contains, sym, arith, inl, inr}
 use Rattle.parity_slots.specs.SlotState.{IsAccess}
 
 len_cases : (len : ℕ) → Contains (1 ∷ 2 ∷ 4 ∷ 8 ∷ []) len → (len ≡ 1) ⊎ ((len ≡ 2) ⊎ ((len ≡ 4) ⊎ (len ≡ 8)))

@@ -4,9 +4,9 @@ use Rattle.std.specs.List.{list_any, range_with_len}
 use Rattle.std.proofs.lemmas.List.{length-drop, length-take-le, get_or-take, get_or-drop}
 use Rattle.flip_ledger.specs.Follows.{Follows}
 use Rattle.flip_ledger.specs.Ledger.{Ledger}
-use Rattle.lf_model.specs.Caches.Slot.{Slot, history_at, befalls_each, has_struck_tag}
+use Rattle.lf_model.specs.Caches.Slot.{history_at, befalls_each, has_struck_tag}
 use Rattle.lf_model.specs.Flips.{Moment, byte_budget, is_struck_byte}
-use Rattle.parity_slots.specs.Inside.{AreBytes, IsSlotOf}
+use Rattle.parity_slots.specs.Inside.{IsSlotOf}
 use Rattle.parity_slots.specs.SlotState.{SlotState}
 use Rattle.parity_slots.specs.Units.{with_units}
 use Rattle.parity_slots.proofs.UnitLemmas.{with_tag, with_line, over_tag, over_line, over_whole_line}

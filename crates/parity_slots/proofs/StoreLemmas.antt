@@ -1,11 +1,9 @@
 -- A store writes one byte after the other.
-use Rattle.std.proofs.Common.{◌≡◌, ℕ, ◌+◌, ◌-◌, ◌/◌, ◌%◌, Bool, true, false, cond, List, [], ◌∷◌, ◌++◌, slice_set, refl, sym, ap, ap₂, ◌∙◌, add-one, arith}
-use Rattle.std.specs.Prelude.{filter, fold}
-use Rattle.std.specs.List.{range_with_len}
+use Rattle.std.proofs.Common.{◌≡◌, ℕ, ◌+◌, ◌-◌, ◌/◌, ◌%◌, Bool, true, false, cond, List, [], ◌∷◌, ◌++◌, slice_set, sym, ap, ap₂, ◌∙◌, add-one, arith}
 use Rattle.std.proofs.lemmas.Grind.{fold-append}
 use Rattle.std.proofs.lemmas.List.{append-nil}
 use Rattle.lf_model.specs.Caches.Change.{stored_bytes, stored_in}
-use Rattle.lf_model.specs.Caches.Slot.{Slot, is_valid_word, befalls, befalls_each, written}
+use Rattle.lf_model.specs.Caches.Slot.{is_valid_word, befalls, befalls_each, written}
 use Rattle.lf_model.specs.Flips.{Moment}
 use Rattle.lf_model.specs.Operation.{byte_of}
 use Rattle.parity_slots.specs.SlotState.{SlotState, bytes_stored, byte_stored}

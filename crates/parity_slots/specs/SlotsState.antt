@@ -1,8 +1,8 @@
 -- The slots of a cache, as its users see them.
-use Rattle.std.specs.Prelude.{◌≡◌, ℕ, ◌*◌, ◌<◌, false, List, [], ◌∷◌, length, replicate, slice_index_or, slice_set}
+use Rattle.std.specs.Prelude.{◌≡◌, ℕ, ◌*◌, ◌<◌, false, List, [], length, replicate, slice_index_or, slice_set}
 use Rattle.flip_ledger.specs.Follows.{has_struck}
 use Rattle.lf_model.specs.Caches.Slot.{Slot, empty_slot}
-use Rattle.parity_slots.specs.SlotState.{SlotState, empty_state, stored_state, filled_state}
+use Rattle.parity_slots.specs.SlotState.{SlotState}
 use Rattle.parity_slots.specs.Units.{slot_units, histories_of}
 
 -- lines: the bytes last written to the line of each slot; flips: how many the script has

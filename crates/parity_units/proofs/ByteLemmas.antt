@@ -1,17 +1,17 @@
 -- A byte under parity follows its history.
-use Rattle.std.proofs.Common.{◌≡◌, ℕ, zero, suc, ◌+◌, ◌^◌, ◌%◌, ◌<◌, ◌≤◌, Bool, true, false, cond, nat_eq, nat_lt, List, [], ◌∷◌, length, refl, sym, ap, ◌∙◌, subst, arith}
+use Rattle.std.proofs.Common.{◌≡◌, ℕ, zero, suc, ◌^◌, ◌%◌, ◌<◌, Bool, true, false, cond, nat_lt, List, [], ◌∷◌, length, refl, sym, ap, ◌∙◌, arith}
 use Rattle.std.specs.Prelude.{bit_xor}
 use Rattle.std.proofs.Math.Pow.{pow-lt}
 use Rattle.std.proofs.lemmas.Bool.Decides.{nat_tests}
 use Rattle.std.proofs.lemmas.List.{nil_from_length}
 use Rattle.std.proofs.lemmas.Nat.{xor_lt}
-use Rattle.lf_model.specs.Caches.Slot.{written, checked_byte}
+use Rattle.lf_model.specs.Caches.Slot.{checked_byte}
 use Rattle.lf_model.specs.Flips.{How, Moment, Standing, struck, standing, turned, byte_budget, is_struck_byte}
 use Rattle.lf_model.specs.Flips.Moment.{Struck, Written, Found}
 use Rattle.lf_num.specs.Toggles as toggles
 use Rattle.parity_code.specs.Parity.{code}
 use Rattle.parity_code.proofs.ParityLemmas.{code-lt, byte_of-code}
-use Rattle.parity_units.specs.Bytes.{byte_bits, fresh_byte, flipped_byte, flipped_bits, IsByteOf}
+use Rattle.parity_units.specs.Bytes.{byte_bits, fresh_byte, flipped_byte, IsByteOf}
 use Rattle.parity_units.specs.declared.byte.ParityByte.{ParityByte}
 
 -- a byte that nothing befell, and one that is written

@@ -4,7 +4,7 @@ use Rattle.std.proofs.Math.Path.{fun_ext}
 use Rattle.std.proofs.lemmas.Bool.{cases_eq, cases_lt, lt-ltb, le-ltb}
 use Rattle.std.proofs.lemmas.Bool.Decides.{nat_tests}
 use Rattle.std.proofs.lemmas.List.{nil_from_length}
-use Rattle.flip_ledger.specs.Follows.{Gains, Follows, Keeps, IsWrite, Remembers, number_of}
+use Rattle.flip_ledger.specs.Follows.{Gains, Follows, Keeps, number_of}
 use Rattle.flip_ledger.specs.Ledger.{Ledger, standing_in}
 use Rattle.flip_ledger.specs.declared.record.Encounter.TheVariants as encounters
 use Rattle.flip_ledger.specs.declared.record.Write.TheVariants as writes

@@ -1,5 +1,5 @@
 -- What befalls several bytes of an array at once.
-use Rattle.std.specs.Prelude.{◌≡◌, ℕ, ◌+◌, ◌<◌, nat_lt, false, List, [], length, slice_index_or, if◌then◌else◌}
+use Rattle.std.specs.Prelude.{◌≡◌, ℕ, ◌+◌, ◌<◌, nat_lt, false, List, length, slice_index_or, if◌then◌else◌}
 use Rattle.lf_model.specs.Caches.Slot.{written, checked_byte}
 use Rattle.lf_model.specs.Flips.{Moment, is_struck_byte}
 use Rattle.lf_model.specs.Flips.How.{Whole}

@@ -1,6 +1,4 @@
-use Rattle.std.proofs.Common.{◌≡◌, ◌+◌, ◌<◌, length, sym, ◌∙◌, arith}
-use Rattle.flip_ledger.specs.Follows.{Follows}
-use Rattle.lf_model.specs.Flips.{byte_budget}
+use Rattle.std.proofs.Common.{◌+◌, ◌<◌, length, sym, ◌∙◌, arith}
 use Rattle.parity_units.specs.Events.{befallen, over}
 use Rattle.parity_units.proofs.EventLemmas.{keeps_same, keeps_then, over_none, gains_event, follows_past}
 use Rattle.parity_units.proofs.events.note.Goals as goal

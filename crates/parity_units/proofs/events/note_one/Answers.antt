@@ -1,6 +1,5 @@
-use Rattle.std.proofs.Common.{ℕ, List, refl, subst}
+use Rattle.std.proofs.Common.{refl, subst}
 use Rattle.flip_ledger.specs.Follows.{Gains}
-use Rattle.lf_model.specs.Flips.{Moment}
 use Rattle.lf_model.specs.Flips.How.{Whole}
 use Rattle.parity_units.specs.Events.{moment_of}
 use Rattle.parity_units.specs.declared.events.Event.{Event}

@@ -1,8 +1,6 @@
-use Rattle.std.proofs.Common.{◌≡◌, ◌≢◌, ℕ, ◌+◌, ◌*◌, ◌/◌, ◌%◌, ◌<◌, ◌≤◌, Bool, true, false, ◌||◌, length, refl, sym, ap, ap₂, ◌∙◌, subst, inl, inr, arith}
-use Rattle.std.specs.Prelude.{fold}
-use Rattle.std.specs.List.{range_with_len}
+use Rattle.std.proofs.Common.{◌≡◌, ◌≢◌, ℕ, ◌+◌, ◌<◌, ◌≤◌, Bool, false, ◌||◌, length, sym, ap, ap₂, ◌∙◌, subst, inl, inr, arith}
 use Rattle.std.proofs.lemmas.Bool.{cases_eq}
-use Rattle.lf_model.specs.Caches.Cache.{Cache, slot_at}
+use Rattle.lf_model.specs.Caches.Cache.{slot_at}
 use Rattle.lf_model.specs.Caches.Look.{Checked, check_way, checked}
 use Rattle.lf_model.specs.Caches.Slot.{has_struck_tag}
 use Rattle.parity_cache.specs.CacheState.{CacheState, with_cache}

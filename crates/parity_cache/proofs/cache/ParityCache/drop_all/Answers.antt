@@ -1,4 +1,4 @@
-use Rattle.std.proofs.Common.{◌≡◌, ℕ, ◌+◌, ◌*◌, ◌<◌, ◌≤◌, List, length, sym, ap, ◌∙◌, add-one, arith}
+use Rattle.std.proofs.Common.{ℕ, ◌<◌, ◌≤◌, List, length, sym, ap, ◌∙◌, add-one, arith}
 use Rattle.lf_model.specs.Caches.Change.{flushed}
 use Rattle.lf_model.specs.Caches.Slot.{Slot}
 use Rattle.parity_cache.specs.CacheState.{with_cache}

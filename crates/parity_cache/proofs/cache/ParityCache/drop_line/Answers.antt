@@ -1,4 +1,4 @@
-use Rattle.std.proofs.Common.{Option, Some, None, sym, ap, ◌∙◌}
+use Rattle.std.proofs.Common.{Some, None, sym, ap, ◌∙◌}
 use Rattle.lf_model.specs.Caches.Cache.{Cache, with_slot, matching}
 use Rattle.lf_model.specs.Caches.Slot.{dropped}
 use Rattle.parity_cache.specs.CacheState.{CacheState, with_cache}

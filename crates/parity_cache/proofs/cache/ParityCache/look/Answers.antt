@@ -1,4 +1,4 @@
-use Rattle.std.proofs.Common.{Bool, Option, Some, None, sym, ap, ◌∙◌, cond}
+use Rattle.std.proofs.Common.{Bool, Some, None, sym, ap, ◌∙◌, cond}
 use Rattle.lf_model.specs.Caches.Cache.{matching}
 use Rattle.lf_model.specs.Caches.Look.{Looked, look_in, checked}
 use Rattle.parity_cache.specs.CacheState.{CacheState, with_cache, answer_of}

@@ -1,4 +1,4 @@
-use Rattle.std.proofs.Common.{Option, Some, None, sym, ap, ◌∙◌}
+use Rattle.std.proofs.Common.{Some, None, ap, ◌∙◌}
 use Rattle.lf_model.specs.Caches.Cache.{matching}
 use Rattle.parity_cache.specs.CacheState.{CacheState, stored_by}
 use Rattle.parity_cache.proofs.SetLemmas.{stored_is}

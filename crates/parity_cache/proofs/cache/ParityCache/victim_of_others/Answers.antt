@@ -1,4 +1,4 @@
-use Rattle.std.proofs.Common.{ℕ, Option, Some, None, sym, ap, ◌∙◌}
+use Rattle.std.proofs.Common.{ℕ, Option, None, sym, ap, ◌∙◌}
 use Rattle.std.specs.Prelude.{unwrap_or, fold}
 use Rattle.std.specs.Option.{option_or}
 use Rattle.lf_model.specs.Caches.Cache.{set_of}

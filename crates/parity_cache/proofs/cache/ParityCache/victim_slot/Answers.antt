@@ -1,4 +1,4 @@
-use Rattle.std.proofs.Common.{Option, Some, None, ◌∙◌}
+use Rattle.std.proofs.Common.{Some, None, ◌∙◌}
 use Rattle.parity_cache.proofs.SetLemmas.{victim_is}
 use Rattle.parity_cache.proofs.cache.ParityCache.victim_slot.Goals as goal
 

@@ -1,4 +1,4 @@
-use Rattle.std.proofs.Common.{◌≡◌, ℕ, ◌+◌, ◌-◌, ◌*◌, ◌/◌, ◌%◌, ◌≤◌, List, length, take, drop, ap₂, ◌∙◌, arith}
+use Rattle.std.proofs.Common.{◌+◌, ◌-◌, ◌≤◌, take, drop, arith}
 use Rattle.lf_model.specs.Caches.Slot.{wanted_bytes}
 use Rattle.parity_units.specs.declared.events.Event.TheVariants.{Check}
 use Rattle.parity_slots.specs.Units.{with_units}

@@ -1,4 +1,3 @@
-use Rattle.lf_model.specs.Flips.{byte_budget}
 use Rattle.parity_units.specs.declared.events.Event.TheVariants.{Check}
 use Rattle.parity_slots.specs.Units.{with_units}
 use Rattle.parity_slots.proofs.ByteRows.{row_checked}

@@ -1,4 +1,4 @@
-use Rattle.std.proofs.Common.{◌≡◌, ℕ, zero, suc, ◌+◌, ◌*◌, ◌/◌, ◌%◌, ◌^◌, ◌<◌, List, [], ◌∷◌, length, map, slice_index, refl, sym, ap, ◌∙◌, subst, lit<, arith}
+use Rattle.std.proofs.Common.{◌≡◌, map, refl, sym, arith}
 use Rattle.lf_model.specs.Caches.Slot.{tag_of, written}
 use Rattle.parity_slots.specs.SlotState.{SlotState, bytes_of}
 use Rattle.parity_slots.specs.Inside.{IsSlotOf}

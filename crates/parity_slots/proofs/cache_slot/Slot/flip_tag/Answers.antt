@@ -1,6 +1,4 @@
-use Rattle.std.proofs.Common.{◌<◌, length, length-set, ◌∙◌, ap, refl, arith}
-use Rattle.lf_model.specs.Caches.Slot.{befalls}
-use Rattle.lf_model.specs.Course.Arrays.{struck_by}
+use Rattle.std.proofs.Common.{◌<◌, length, length-set, ◌∙◌, arith}
 use Rattle.parity_units.specs.Bytes.{flipped_byte}
 use Rattle.parity_units.specs.Events.{byte_at}
 use Rattle.parity_slots.proofs.ByteRows.{row_byte_struck}

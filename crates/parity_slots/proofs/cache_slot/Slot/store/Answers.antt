@@ -1,4 +1,4 @@
-use Rattle.std.proofs.Common.{◌≡◌, ℕ, ◌+◌, ◌/◌, ◌%◌, ◌<◌, ◌≤◌, true, false, List, sym, ap, ◌∙◌, subst, arith}
+use Rattle.std.proofs.Common.{◌≡◌, ℕ, ◌+◌, ◌/◌, ◌%◌, sym, ap, ◌∙◌, subst, arith}
 use Rattle.flip_ledger.specs.Follows.{Follows}
 use Rattle.lf_model.specs.Caches.Change.{stored_in}
 use Rattle.lf_model.specs.Caches.Slot.{Slot, is_valid_word}

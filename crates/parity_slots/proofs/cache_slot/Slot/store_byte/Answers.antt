@@ -1,4 +1,4 @@
-use Rattle.std.proofs.Common.{◌≡◌, ℕ, ◌+◌, ◌-◌, ◌^◌, ◌<◌, ◌≤◌, List, length, take, drop, length-set, ◌∙◌, arith}
+use Rattle.std.proofs.Common.{◌+◌, ◌-◌, ◌≤◌, take, drop, length-set, ◌∙◌, arith}
 use Rattle.parity_units.specs.Bytes.{fresh_byte}
 use Rattle.parity_units.specs.declared.events.Event.TheVariants.{Write}
 use Rattle.parity_slots.specs.Units.{with_units}

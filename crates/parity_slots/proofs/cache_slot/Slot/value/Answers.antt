@@ -1,4 +1,4 @@
-use Rattle.std.proofs.Common.{◌≡◌, ℕ, ◌+◌, ◌*◌, ◌-◌, ◌/◌, ◌%◌, ◌^◌, ◌<◌, ◌≤◌, false, List, length, take, drop, slice_index, sym, ap, ◌∙◌, subst, arith}
+use Rattle.std.proofs.Common.{◌≡◌, ℕ, ◌+◌, ◌*◌, ◌-◌, ◌/◌, ◌%◌, ◌<◌, false, length, take, drop, slice_index, sym, ap, ◌∙◌, subst, arith}
 use Rattle.lf_model.specs.Caches.Slot.{history_at, has_struck_byte}
 use Rattle.lf_model.specs.Flips.{is_struck_byte}
 use Rattle.parity_slots.specs.SlotState.{number_of}

@@ -1,8 +1,8 @@
-use Rattle.std.proofs.Common.{◌<◌, length, map, sym, ap, refl, ◌∙◌, arith}
+use Rattle.std.proofs.Common.{◌<◌, length, map, arith}
 use Rattle.std.proofs.lemmas.List.{length-map}
 use Rattle.lf_model.specs.Caches.Slot.{dropped_by_tag}
-use Rattle.parity_slots.specs.Kept.{slot_of, seen}
-use Rattle.parity_slots.proofs.SlotsLemmas.{few, units, follows, seen_changed, seen_with, state_here}
+use Rattle.parity_slots.specs.Kept.{slot_of}
+use Rattle.parity_slots.proofs.SlotsLemmas.{few, units, follows, seen_changed}
 use Rattle.parity_slots.proofs.cache_slots.Slots.drop_by_tag.Goals as goal
 
 pub invariant_of-self : goal.invariant_of-self

@@ -1,9 +1,9 @@
-use Rattle.std.proofs.Common.{◌<◌, length, map, sym, ap, refl, ◌∙◌, arith}
+use Rattle.std.proofs.Common.{◌<◌, length, map, sym, ap, ◌∙◌, arith}
 use Rattle.std.proofs.lemmas.List.{length-map}
 use Rattle.parity_slots.specs.SlotState.{SlotState, filled_state}
 use Rattle.parity_slots.specs.SlotsState.{with_state}
 use Rattle.parity_slots.specs.Kept.{slot_of, seen}
-use Rattle.parity_slots.proofs.SlotsLemmas.{few, units, follows, seen_changed, seen_with, state_here}
+use Rattle.parity_slots.proofs.SlotsLemmas.{few, units, follows, seen_with, state_here}
 use Rattle.parity_slots.proofs.cache_slots.Slots.fill.Goals as goal
 
 pub invariant_of-self : goal.invariant_of-self

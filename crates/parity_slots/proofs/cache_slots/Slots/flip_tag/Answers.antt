@@ -1,4 +1,4 @@
-use Rattle.std.proofs.Common.{◌+◌, ◌*◌, ◌<◌, length, map, sym, ap, refl, ◌∙◌, arith}
+use Rattle.std.proofs.Common.{◌<◌, length, map, ◌∙◌, arith}
 use Rattle.std.proofs.lemmas.List.{length-map}
 use Rattle.parity_slots.specs.Kept.{slot_of}
 use Rattle.parity_slots.specs.SlotState.{tag_flipped}

@@ -1,10 +1,7 @@
-use Rattle.std.proofs.Common.{◌≡◌, ℕ, zero, suc, ◌*◌, ◌<◌, ◌≤◌, List, [], ◌∷◌, length, map, refl, sym, ap, ◌∙◌, arith}
-use Rattle.std.specs.Prelude.{replicate}
+use Rattle.std.proofs.Common.{◌≡◌, ℕ, ◌*◌, length, refl, sym, ap, ◌∙◌, arith}
 use Rattle.std.proofs.lemmas.List.{length-replicate}
 use Rattle.lf_model.specs.Flips.{byte_budget}
-use Rattle.parity_slots.specs.Kept.{slot_of, bytes_of_slot}
 use Rattle.parity_slots.specs.SlotState.{SlotState, empty_state}
-use Rattle.parity_slots.specs.SlotsState.{SlotsState, reset_slots}
 use Rattle.parity_slots.proofs.SlotsLemmas.{empty_histories, slots_of_reset, lines_of_reset}
 use Rattle.parity_slots.proofs.cache_slots.Slots.new.Goals as goal
 

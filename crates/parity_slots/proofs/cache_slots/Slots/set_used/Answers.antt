@@ -1,9 +1,9 @@
-use Rattle.std.proofs.Common.{◌<◌, length, map, sym, ap, refl, ◌∙◌, arith}
+use Rattle.std.proofs.Common.{◌<◌, length, map, refl, arith}
 use Rattle.std.proofs.lemmas.List.{length-map}
 use Rattle.parity_slots.specs.SlotState.{used_in}
 use Rattle.parity_units.proofs.EventLemmas.{keeps_same}
-use Rattle.parity_slots.specs.Kept.{slot_of, seen}
-use Rattle.parity_slots.proofs.SlotsLemmas.{few, units, follows, seen_changed, seen_with, state_here}
+use Rattle.parity_slots.specs.Kept.{slot_of}
+use Rattle.parity_slots.proofs.SlotsLemmas.{few, units, follows, seen_changed}
 use Rattle.parity_slots.proofs.cache_slots.Slots.set_used.Goals as goal
 
 pub invariant_of-self : goal.invariant_of-self
