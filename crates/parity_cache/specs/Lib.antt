@@ -1,0 +1,2 @@
+pub mod CacheState
+pub mod Kept

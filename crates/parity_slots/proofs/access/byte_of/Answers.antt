@@ -1,0 +1,6 @@
+use Rattle.std.proofs.Common.{◌-◌}
+use Rattle.order_log.proofs.ByteLemmas.{shifted}
+use Rattle.parity_slots.proofs.access.byte_of.Goals as goal
+
+pub returns : goal.returns
+returns c = rw c.from-after.ensures (shifted c.args.value (c.args.len - 1 - c.args.i))

@@ -1,0 +1,5 @@
+pub mod SlotState
+pub mod Units
+pub mod Inside
+pub mod SlotsState
+pub mod Kept

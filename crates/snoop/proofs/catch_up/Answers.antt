@@ -1,0 +1,35 @@
+use Rattle.std.proofs.Common.{◌≡◌, ℕ, ◌+◌, ◌-◌, ◌<◌, ◌≤◌, List, [], ◌∷◌, ◌++◌, length, map, take, drop, slice_index_or, sym, ap, ◌∙◌, arith}
+use Rattle.std.specs.Prelude.{fold}
+use Rattle.std.proofs.lemmas.Grind.{fold-append}
+use Rattle.std.proofs.lemmas.List.{take_more, get_or-drop, length-drop, map-append}
+use Rattle.std.proofs.lemmas.Option.{get_or_from_slice_get}
+use Rattle.lf_model.specs.Caches.Cache.{Cache}
+use Rattle.lf_model.specs.Caches.Change.{snooped}
+use Rattle.lf_model.specs.declared.bus.Entry.{Entry}
+use Rattle.parity_cache.specs.CacheState.{CacheState, with_cache}
+use Rattle.snoop.specs.Snooping.{address_of}
+use Rattle.snoop.proofs.catch_up.Goals as goal
+
+-- the addresses of the entries from one on, with one entry more
+addresses_more : (entries : List Entry) (seen i : ℕ) (e : Entry) → seen ≤ i → i < length entries → slice_index_or entries i e ≡ e
+    → map address_of (take (i + 1 - seen) (drop seen entries)) ≡ map address_of (take (i - seen) (drop seen entries)) ++ e.addr ∷ []
+addresses_more entries seen i e from lt is =
+    let next : i + 1 - seen ≡ i - seen + 1 = omega arith in
+    let place : seen + (i - seen) ≡ i = omega arith in
+    let within : i - seen < length (drop seen entries) = omega (arith, length-drop seen entries, from, lt) in
+    ap (λ (n : ℕ). map address_of (take n (drop seen entries))) next
+    ∙ ap (map address_of) (take_more (drop seen entries) (i - seen) e within)
+    ∙ map-append address_of (take (i - seen) (drop seen entries)) (slice_index_or (drop seen entries) (i - seen) e ∷ [])
+    ∙ ap (λ (x : Entry). map address_of (take (i - seen) (drop seen entries)) ++ x.addr ∷ []) (get_or-drop seen entries (i - seen) e ∙ ap (λ (n : ℕ). slice_index_or entries n e) place ∙ is)
+
+pub loop-i-preserved : goal.loop-i-preserved
+loop-i-preserved c =
+    let entries : List Entry = c.args.log.now.entries in
+    let lt : c.loop-i.i < length c.args.log.now.entries = omega (arith, c.loop-i-test.true, c.len-i-end.ensures.length) in
+    let here = get_or_from_slice_get c.args.log.now.entries c.loop-i.i c.at.result c.at.result c.at.ensures.listed in
+    let more = addresses_more c.args.log.now.entries c.args.seen c.loop-i.i c.at.result (omega arith) lt here in
+    c.drop_line.ensures
+    ∙ ap (λ (s : CacheState). with_cache (snooped s.cache c.at.result.addr) s) c.loop-i.invariant
+    ∙ ap (λ (cache : Cache). with_cache cache c.args.cache.now)
+    (sym (ap (fold snooped c.args.cache.now.cache) more
+    ∙ fold-append snooped c.args.cache.now.cache (map address_of (take (c.loop-i.i - c.args.seen) (drop c.args.seen c.args.log.now.entries))) (c.at.result.addr ∷ [])))
