@@ -1,0 +1,5 @@
+pub mod PlaceLemmas
+pub mod FollowLemmas
+pub mod ReadLemmas
+pub mod WriteLemmas
+pub mod BeginLemmas

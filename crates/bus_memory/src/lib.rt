@@ -1,0 +1,2 @@
+//! Memory over the transfers on the bus.
+#![tactic(auto)]
