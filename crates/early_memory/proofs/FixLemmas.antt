@@ -3,8 +3,8 @@ use Rattle.std.proofs.Common.{◌≡◌, ℕ, List, slice_index_or, slice_set, s
 use Rattle.std.proofs.lemmas.List.{map-set, set-get_or}
 use Rattle.early_memory.specs.Cells.{CellState, words}
 use Rattle.early_memory.specs.Fixing.{FixesCell}
-use Rattle.early_memory.specs.declared.answer.Fixed.{Fixed}
-use Rattle.early_memory.specs.declared.answer.Fixed.TheVariants.{Clean, Corrected, Bad}
+use Rattle.ram_words.specs.declared.answer.Fixed.{Fixed}
+use Rattle.ram_words.specs.declared.answer.Fixed.TheVariants.{Clean, Corrected, Bad}
 
 same_word : (old new : CellState) (answer : Fixed) → FixesCell old answer new → new.value ≡ old.value
 same_word old new Clean fixes = ap (λ (cell : CellState). cell.value) fixes.1

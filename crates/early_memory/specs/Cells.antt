@@ -1,7 +1,7 @@
 -- The cell of a memory word, and what it reads as.
 use Rattle.std.specs.Prelude.{◌≡◌, ℕ, ◌<◌, if◌then◌else◌, length, map, List, Result, Ok, Err}
 pub use Rattle.ft_cells.specs.WordCells.{CellState, cell_bits, budget, fresh, flipped, FlipsCell, is_bad, is_fixed, syndrome_of}
-use Rattle.early_memory.specs.declared.answer.Got.{Got}
+use Rattle.ram_words.specs.declared.answer.Got.{Got}
 
 -- what a cell reads as: with at most one toggled bit the word last written, with two it is bad, each with its syndrome
 abbrev pub ReadsAs : CellState → Result Got ℕ → Type 0

@@ -1,8 +1,8 @@
 -- What a fix of a word does.
 use Rattle.std.specs.Prelude.{◌≡◌, [], ◌∷◌, length}
 use Rattle.early_memory.specs.Cells.{CellState, fresh, syndrome_of}
-use Rattle.early_memory.specs.declared.answer.Fixed.{Fixed}
-use Rattle.early_memory.specs.declared.answer.Fixed.TheVariants.{Clean, Corrected, Bad}
+use Rattle.ram_words.specs.declared.answer.Fixed.{Fixed}
+use Rattle.ram_words.specs.declared.answer.Fixed.TheVariants.{Clean, Corrected, Bad}
 
 -- a cell with no toggled bit, and one with two, stay as they are; one with a toggled bit is written anew with its word. The
 -- answer tells the toggled bit and the syndrome.

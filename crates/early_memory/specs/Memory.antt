@@ -3,14 +3,11 @@ use Rattle.std.specs.Prelude.{◌≡◌, ℕ, ◌-◌, ◌*◌, ◌/◌, ◌%◌
 use Rattle.lf_model.specs.Start.{ram_first, is_in_ram, word_at}
 use Rattle.lf_model.specs.declared.image.Image.{Image}
 use Rattle.early_memory.specs.Cells.{CellState, fresh}
+pub use Rattle.ram_words.specs.Ram.{place_of, IsInRam}
 
 -- the bytes of RAM
 abbrev pub ram_of : List CellState → ℕ
 ram_of cells = 4 * length cells
-
--- the number of the word of RAM that an address lies in
-abbrev pub place_of : ℕ → ℕ
-place_of addr = (addr - ram_first) / 4
 
 -- the cell of the word that an address of RAM lies in
 abbrev pub cell_at : List CellState → ℕ → CellState
@@ -19,10 +16,6 @@ cell_at cells addr = slice_index_or cells (place_of addr) (fresh 0)
 -- the eight cells of the line at an address of RAM, a multiple of 32
 abbrev pub line_at : List CellState → ℕ → List CellState
 line_at cells line = take 8 (drop (place_of line) cells)
-
--- each segment of the image lies in RAM of this size
-abbrev pub IsInRam : ℕ → Image → Type 0
-IsInRam ram image = All (λ segment. IsTrue (is_in_ram ram segment.addr segment.size)) image.segments
 
 -- each word of RAM of this size is freshly written with the word that the image has at its address
 pub record HoldsImage (ram : ℕ) (image : Image) (cells : List CellState) : Type 0 where

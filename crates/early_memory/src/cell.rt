@@ -2,9 +2,9 @@ ghost use Rattle.std.specs.Prelude.{◌≡◌};
 ghost use Rattle.early_memory.specs.Cells.{is_bad, shown_word, syndrome_of, ReadsAs};
 ghost use Rattle.early_memory.specs.Fixing.{FixesCell};
 
-use crate::answer::{Fixed, Got};
 use edac_code::{Read39, syndrome39};
 use ft_cells::{Cell, Word39};
+use ram_words::{Fixed, Got};
 
 /// The cell of a word of memory.
 pub type WordCell = Cell<Word39>;

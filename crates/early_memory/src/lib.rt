@@ -6,13 +6,9 @@
 //! set of bits toggled since, and the number of flips. Only `Memory::new` takes memory.
 #![tactic(auto)]
 
-mod answer;
 mod cell;
-mod part;
 mod ram;
-mod start;
 
-pub use answer::{Fixed, Got};
 pub use ft_cells::Flipped;
 pub use ram::Memory;
-pub use start::{initial_bytes, word_at};
+pub use ram_words::{Fixed, Got, initial_bytes, word_at};

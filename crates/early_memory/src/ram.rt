@@ -1,18 +1,15 @@
 ghost use Rattle.std.specs.Prelude.{◌≡◌, ◌+◌, ◌%◌, ◌^◌, ◌<◌, ◌≤◌, ◌↔◌, ℕ, length, map, slice_set, IsTrue, IsOk, IsErr, IfOk, IfErr};
-ghost use Rattle.lf_model.specs.Start.{ram_first, is_in_ram};
+ghost use Rattle.lf_model.specs.Start.{is_in_ram};
 ghost use Rattle.early_memory.specs.Cells.{cell_bits, fresh, is_bad, shown_word, syndrome_of, words, FlipsCell};
 ghost use Rattle.early_memory.specs.Fixing.{FixesCell};
 ghost use Rattle.early_memory.specs.Memory.{ram_of, place_of, cell_at, line_at, IsInRam, HoldsImage};
 ghost use Rattle.early_memory.specs.Parts.{word_address, is_part, merged, HasMergedBytes};
 
-use crate::answer::{Fixed, Got};
 use crate::cell::{WordCell, fix, read, show};
-use crate::part::{merged, word_address};
-use crate::start::{initial_bytes, word_at};
 use ft_cells::Flipped;
-use lf_model::addresses::RAM_FIRST;
 use lf_model::bus::{Bad, Line};
 use lf_model::image::Image;
+use ram_words::{Fixed, Got, initial_words, merged, place_of, word_of};
 use std::alloc::{AllocError, Global};
 use std::marker::Model;
 
@@ -34,12 +31,15 @@ impl Model for Memory {
     ghost view = { λ memory. memory.cells.items };
 }
 
-/// The number of the word of RAM that an address lies in.
-fn place_of(addr: u32) -> usize
-    requires { ram_first ≤ addr }
-    ensures { result ≡ place_of addr }
+/// Cells that were just written with these words.
+fn fresh_cells(alloc: Global, words: &[u32]) -> Result<Vec<WordCell>, AllocError>
+    ensures { IfOk result (λ cells. cells.items ≡ map fresh words.now) }
 {
-    ((addr - RAM_FIRST) / 4) as usize
+    let mut cells = Vec::with_capacity(alloc, words.len())?;
+    for word in words {
+        cells.push(WordCell::new(*word))?;
+    }
+    Ok(cells)
 }
 
 impl Memory {
@@ -56,13 +56,10 @@ impl Memory {
         requires segments { IsInRam ram image.now }
         ensures { IfOk result (HoldsImage ram image.now) }
     {
-        let bytes = initial_bytes(alloc, ram, image)?;
-        let count = bytes.len() / 4;
-        let mut cells = Vec::with_capacity(alloc, count)?;
-        for place in 0..count {
-            cells.push(WordCell::new(word_at(&bytes, 4 * place)))?;
-        }
-        Ok(Memory { cells })
+        let words = initial_words(alloc, ram, image)?;
+        Ok(Memory {
+            cells: fresh_cells(alloc, &words)?,
+        })
     }
 
     /// The line of eight words at an address of RAM, a multiple of 32: of each the word, 0 for a bad one, the syndrome, and
@@ -144,7 +141,7 @@ impl Memory {
                 Ok(got.syn)
             }
             Err(syn) => Err(Bad {
-                addr: word_address(addr),
+                addr: word_of(addr),
                 syn,
             }),
         }

@@ -1,7 +1,7 @@
 use Rattle.std.proofs.Common.{arith}
 use Rattle.std.proofs.lemmas.Bool.Decides.{nat_tests}
-use Rattle.early_memory.proofs.PartLemmas.{first_byte, second_byte, third_byte, fourth_byte, first_half, second_half}
-use Rattle.early_memory.proofs.part.merged.Goals as goal
+use Rattle.ram_words.proofs.PartLemmas.{first_byte, second_byte, third_byte, fourth_byte, first_half, second_half}
+use Rattle.ram_words.proofs.part.merged.Goals as goal
 
 pub returns-in-1-eq0 : goal.returns-in-1-eq0
 returns-in-1-eq0 c =

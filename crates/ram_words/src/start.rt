@@ -1,6 +1,6 @@
 ghost use Rattle.std.specs.Prelude.{◌≡◌, ◌+◌, ◌-◌, ◌*◌, ◌^◌, ◌<◌, ◌≤◌, ◌&&◌, ℕ, nat_le, nat_lt, if◌then◌else◌, length, slice_index, vec_len, IsTrue, IfOk};
 ghost use Rattle.lf_model.specs.Start.{ram_first, is_in_ram, covers, byte_in, initial_byte, number_at};
-ghost use Rattle.early_memory.specs.Memory.{IsInRam};
+ghost use Rattle.ram_words.specs.Ram.{IsInRam, first_words};
 
 use lf_model::addresses::RAM_FIRST;
 use lf_model::image::{Image, Segment};
@@ -61,4 +61,18 @@ pub fn word_at(bytes: &[u8], at: usize) -> u32
     ensures { result ≡ number_at (slice_index bytes.now) at 4 }
 {
     u32::from_be_bytes([bytes[at], bytes[at + 1], bytes[at + 2], bytes[at + 3]])
+}
+
+/// The words of RAM at the start. `ram` is a multiple of 4.
+pub fn initial_words(alloc: Global, ram: u32, image: &Image) -> Result<Vec<u32>, AllocError>
+    requires { IsInRam ram image.now }
+    ensures { IfOk result (λ words. words.items ≡ first_words ram image.now) }
+{
+    let bytes = initial_bytes(alloc, ram, image)?;
+    let count = bytes.len() / 4;
+    let mut words = Vec::with_capacity(alloc, count)?;
+    for place in 0..count {
+        words.push(word_at(&bytes, 4 * place))?;
+    }
+    Ok(words)
 }

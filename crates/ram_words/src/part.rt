@@ -1,14 +1,15 @@
 ghost use Rattle.std.specs.Prelude.{◌≡◌, ◌%◌, IsTrue};
-ghost use Rattle.early_memory.specs.Parts.{word_address, is_part, merged};
+ghost use Rattle.lf_model.specs.Bus.Words.{word_of};
+ghost use Rattle.ram_words.specs.Parts.{is_part, merged};
 
 /// The address of the word that an address lies in.
-pub fn word_address(addr: u32) -> u32
-    ensures { result ≡ word_address addr }
+pub fn word_of(addr: u32) -> u32
+    ensures { result ≡ word_of addr }
 {
     addr - addr % 4
 }
 
-/// A word with the byte or half at an address replaced by the low bytes of a number.
+/// A word with the byte or half (`len` 1 or 2) at an address, a multiple of `len`, replaced by the low bytes of a number.
 pub fn merged(word: u32, addr: u32, len: u8, value: u32) -> u32
     requires part { IsTrue (is_part len) }
     requires aligned { addr % len ≡ 0 }
