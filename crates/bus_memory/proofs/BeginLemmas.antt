@@ -49,14 +49,17 @@ follows_struck number addr bit words hs aligned above within covered follows =
     (λ none un. absurd (false≢true (sym none ∙ ap (λ (a : ℕ). list_any (is_at a) words) (address_back addr aligned above) ∙ covered)))
     follows
 
+pub covered_map : (g : Word → Word) → ((w : Word) → (g w).addr ≡ w.addr) → (words : List Word) (flips : List Flip) → AllByRecursion (IsCovered words) flips
+    → AllByRecursion (IsCovered (map g words)) flips
+covered_map g keeps words [] all = tt
+covered_map g keeps words (Mem turn at b ∷ flips) all = (is_at_map g keeps at words ∙ all.0, covered_map g keeps words flips all.1)
+covered_map g keeps words (Reg core step cell b ∷ flips) all = (tt, covered_map g keeps words flips all.1)
+covered_map g keeps words (Tag core step fetch way set byte b ∷ flips) all = (tt, covered_map g keeps words flips all.1)
+covered_map g keeps words (Line core step fetch way set byte b ∷ flips) all = (tt, covered_map g keeps words flips all.1)
+
 covered_struck : (number addr bit : ℕ) (words : List Word) (flips : List Flip) → AllByRecursion (IsCovered words) flips
     → AllByRecursion (IsCovered (map (struck_word number addr bit) words)) flips
-covered_struck number addr bit words [] all = tt
-covered_struck number addr bit words (Mem turn at b ∷ flips) all =
-    (is_at_map (struck_word number addr bit) (struck_addr number addr bit) at words ∙ all.0, covered_struck number addr bit words flips all.1)
-covered_struck number addr bit words (Reg core step cell b ∷ flips) all = (tt, covered_struck number addr bit words flips all.1)
-covered_struck number addr bit words (Tag core step fetch way set byte b ∷ flips) all = (tt, covered_struck number addr bit words flips all.1)
-covered_struck number addr bit words (Line core step fetch way set byte b ∷ flips) all = (tt, covered_struck number addr bit words flips all.1)
+covered_struck number addr bit words flips all = covered_map (struck_word number addr bit) (struck_addr number addr bit) words flips all
 
 -- ---- all flips of a turn
 
@@ -91,6 +94,24 @@ begun_follows turn k (Mem t addr bit ∷ flips) words hs aims covered follows =
 begun_follows turn k (Reg core step cell bit ∷ flips) words hs aims covered follows = begun_follows turn (k + 1) flips words hs aims.1 covered.1 follows
 begun_follows turn k (Tag core step fetch way set byte bit ∷ flips) words hs aims covered follows = begun_follows turn (k + 1) flips words hs aims.1 covered.1 follows
 begun_follows turn k (Line core step fetch way set byte bit ∷ flips) words hs aims covered follows = begun_follows turn (k + 1) flips words hs aims.1 covered.1 follows
+
+-- the words keep their addresses
+covered_strike : (turn number : ℕ) (words : List Word) (flip : Flip) (flips : List Flip) → AllByRecursion (IsCovered words) flips
+    → AllByRecursion (IsCovered (strike_word turn number words flip)) flips
+covered_strike turn number words (Mem t addr bit) flips all = by (nat_eq t turn)
+  where
+    by : (b : Bool) → AllByRecursion (IsCovered (cond b (map (struck_word number addr bit) words) words)) flips
+    by true = covered_struck number addr bit words flips all
+    by false = all
+covered_strike turn number words (Reg core step cell bit) flips all = all
+covered_strike turn number words (Tag core step fetch way set byte bit) flips all = all
+covered_strike turn number words (Line core step fetch way set byte bit) flips all = all
+
+pub covered_begun : (turn : ℕ) (struck : List (ℕ × Flip)) (words : List Word) (flips : List Flip) → AllByRecursion (IsCovered words) flips
+    → AllByRecursion (IsCovered (fold (strike_flip turn) words struck)) flips
+covered_begun turn [] words flips all = all
+covered_begun turn (flip ∷ struck) words flips all =
+    covered_begun turn struck (strike_flip turn words flip) flips (covered_strike turn flip.0 words flip.1 flips all)
 
 pub length_strikes : (run : List Strike) (hs : List (List Moment)) → length (fold with_strike hs run) ≡ length hs
 length_strikes [] hs = refl

@@ -1,2 +1,4 @@
 pub mod Followed
 pub mod Strikes
+pub mod MemoryState
+pub mod Kept
