@@ -2,3 +2,5 @@ pub mod Followed
 pub mod Strikes
 pub mod MemoryState
 pub mod Kept
+pub mod Inside
+pub mod Answers
