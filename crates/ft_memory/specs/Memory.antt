@@ -1,11 +1,10 @@
 -- Coded RAM (GRLIB, FTAHBRAM), as its users see it: an array of words, the first of which is at the first address of RAM. What a
 -- transfer reads, and how it writes a word, goes by the word's history.
-use Rattle.std.specs.Prelude.{ℕ, ◌*◌, ◌/◌, Bool, List, [], ◌∷◌, length, map, replicate, slice_index, Option, Some, None, Result, Ok, Err, if◌then◌else◌}
+use Rattle.std.specs.Prelude.{ℕ, ◌*◌, ◌/◌, Bool, List, [], length, map, replicate, slice_index, Option, Some, None, Result, Ok, Err, if◌then◌else◌}
 use Rattle.coded_words.specs.Words.{Words, written}
-use Rattle.lf_num.specs.Columns.{columns_sum}
 use Rattle.lf_model.specs.Bus.Words.{word_of, words_of_line, write_of}
 use Rattle.lf_model.specs.Caches.Slot.{history_at}
-use Rattle.lf_model.specs.Flips.{How, Moment, turned_bits, is_bad_word, syndrome}
+use Rattle.lf_model.specs.Flips.{How, Moment, turned_bits, is_bad_word, is_fixed_word, syndrome}
 use Rattle.lf_model.specs.declared.bus.Bad.{Bad}
 use Rattle.lf_model.specs.declared.bus.Line.{Line}
 use Rattle.lf_model.specs.declared.bus.TurnKind.TheVariants as turns
@@ -85,11 +84,9 @@ exchanged addr len value m =
 abbrev pub fixed : ℕ → Words → Words
 fixed addr m = with_write (write_of 0 (history_of m addr) turns.Fix) addr (value_at m addr) m
 
--- and answers by the bits that stand flipped
-abbrev pub fix_answer : List ℕ → Fixed
-fix_answer [] = fixes.Clean
-fix_answer (bit ∷ []) = fixes.Corrected bit (columns_sum (bit ∷ []))
-fix_answer (bit ∷ bits) = fixes.Bad (columns_sum (bit ∷ bits))
-
+-- and answers the bit that stood flipped, where one did, and the syndrome
 unfoldable pub answer_of_fix : Words → ℕ → Fixed
-answer_of_fix m addr = fix_answer (turned_bits (history_of m addr))
+answer_of_fix m addr =
+    if is_bad_at m addr then fixes.Bad (syndrome_at m addr)
+    else if is_fixed_word (history_of m addr) then fixes.Corrected (slice_index (turned_bits (history_of m addr)) 0) (syndrome_at m addr)
+    else fixes.Clean

@@ -10,9 +10,9 @@ ghost use Rattle.lf_model.specs.Flips.{word_budget, word_bits};
 ghost use Rattle.lf_model.specs.Flips.How.{Whole};
 ghost use Rattle.lf_model.specs.Start.{is_in_ram};
 ghost use Rattle.lf_model.specs.declared.trace.Fate.TheVariants.{Late};
-ghost use Rattle.ram_words.specs.Parts.{is_part, HasMergedBytes};
+ghost use Rattle.ram_words.specs.Parts.{is_part, merged, HasMergedBytes};
 ghost use Rattle.ram_words.specs.Ram.{place_of, IsInRam};
-ghost use Rattle.ft_memory.specs.Memory.{at_start, ram_of, value_at, history_of, answer_of_read, line_of, value_shown, part_stored, answer_of_part, exchanged, fixed, answer_of_fix};
+ghost use Rattle.ft_memory.specs.Memory.{at_start, ram_of, value_at, history_of, is_bad_at, syndrome_at, answer_of_read, word_shown, line_of, value_shown, part_stored, answer_of_part, exchanged, fixed, answer_of_fix};
 
 use coded_words::{CodedWords, How};
 use edac_code::Read39;
@@ -23,6 +23,19 @@ use lf_model::trace::Fate;
 use ram_words::{Fixed, Got, initial_words, merged, place_of, word_of};
 use std::alloc::{AllocError, Global};
 use std::marker::Model;
+
+/// The word that an atomic writes: with `len` 4 the number, with `len` 1 the word that was read with one byte replaced.
+fn exchanged_word(word: u32, addr: u32, len: u8, v: u32) -> u32
+    requires length { IsTrue (len == 1 || len == 4) }
+    requires aligned { addr % len ≡ 0 }
+    ensures { result ≡ merged word addr len v }
+{
+    if len == 4 {
+        v
+    } else {
+        merged(word, addr, len, v)
+    }
+}
 
 /// Coded RAM, from 40000000 hex on, and what became of the flips of the script that are for it.
 ///
@@ -42,6 +55,17 @@ impl Model for Memory {
     ghost use Rattle.ft_memory.specs.Inside.{IsWhole};
 
     ghost invariant = { IsWhole };
+}
+
+/// A word as a line of eight words shows it.
+#[derive(Clone, Copy)]
+struct Shown {
+    /// The word last written, 0 for a bad one.
+    word: u32,
+    /// The syndrome.
+    syn: u8,
+    /// The word is bad.
+    bad: bool,
 }
 
 impl Memory {
@@ -83,6 +107,29 @@ impl Memory {
         }
     }
 
+    /// The word at an address of RAM, a multiple of 4, as a line shows it.
+    #[inline]
+    fn show(&self, addr: u32) -> Shown
+        requires in_ram { IsTrue (is_in_ram (ram_of self.now) addr 4) }
+        requires aligned { addr % 4 ≡ 0 }
+        ensures word { result.word ≡ word_shown self.now addr }
+        ensures syndrome { result.syn ≡ syndrome_at self.now addr }
+        ensures bad { result.bad ≡ is_bad_at self.now addr }
+    {
+        match self.read_word(addr) {
+            Ok(got) => Shown {
+                word: got.value,
+                syn: got.syn,
+                bad: false,
+            },
+            Err(word) => Shown {
+                word: 0,
+                syn: word.syn,
+                bad: true,
+            },
+        }
+    }
+
     /// The line of eight words at an address of RAM, a multiple of 32: of each the word, 0 for a bad one, the syndrome, and
     /// whether it is bad.
     pub fn read_line(&self, line: u32) -> Line
@@ -94,17 +141,10 @@ impl Memory {
         let mut syn = [0; 8];
         let mut bad = [false; 8];
         for j in 0..8u32 {
-            let at = j as usize;
-            match self.read_word(line + 4 * j) {
-                Ok(got) => {
-                    words[at] = got.value;
-                    syn[at] = got.syn;
-                }
-                Err(word) => {
-                    syn[at] = word.syn;
-                    bad[at] = true;
-                }
-            }
+            let shown = self.show(line + 4 * j);
+            words[j as usize] = shown.word;
+            syn[j as usize] = shown.syn;
+            bad[j as usize] = shown.bad;
         }
         Line { words, syn, bad }
     }
@@ -115,7 +155,10 @@ impl Memory {
         requires aligned { addr % 4 ≡ 0 }
         ensures { result ≡ value_shown self.now addr }
     {
-        self.read_word(addr).ok().map(|got| got.value)
+        match self.read_word(addr) {
+            Ok(got) => Some(got.value),
+            Err(_) => None,
+        }
     }
 
     /// Writes the word at an address of RAM, a multiple of 4. The word is not read.
@@ -164,11 +207,7 @@ impl Memory {
     {
         let word = word_of(addr);
         let got = self.read_word(word)?;
-        let value = if len == 4 {
-            v
-        } else {
-            merged(got.value, addr, len, v)
-        };
+        let value = exchanged_word(got.value, addr, len, v);
         self.words.write(place_of(word), value, How::ByAtomic);
         Ok(got)
     }
