@@ -5,3 +5,6 @@ pub mod WriteLemmas
 pub mod BeginLemmas
 pub mod HistoryLemmas
 pub mod KeptLemmas
+pub mod AskedLemmas
+pub mod WordRun
+pub mod NamedWord
