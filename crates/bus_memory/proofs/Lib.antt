@@ -8,3 +8,5 @@ pub mod KeptLemmas
 pub mod AskedLemmas
 pub mod WordRun
 pub mod NamedWord
+pub mod DueLemmas
+pub mod InsideLemmas

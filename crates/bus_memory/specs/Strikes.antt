@@ -1,5 +1,5 @@
 -- Which flips of the script struck words of the array.
-use Rattle.std.specs.Prelude.{◌≡◌, ℕ, ◌*◌, ◌%◌, ◌<◌, ◌≤◌, true, List, length, fold, Option, Some, None, slice_get, IsTrue}
+use Rattle.std.specs.Prelude.{◌≡◌, ℕ, ◌%◌, ◌<◌, ◌≤◌, ◌++◌, true, List, length, fold, Option, Some, None, All, slice_get}
 use Rattle.std.specs.List.{AllByRecursion, list_any}
 use Rattle.coded_words.specs.Words.{Words, IsToCome}
 use Rattle.flip_ledger.specs.Follows.{has_struck}
@@ -40,6 +40,13 @@ pub record MayStrike (memory : Words) (strike : Strike) : Type 0 where
   pub bit : strike.bit < word_bits
   pub number : strike.number < memory.flips
   pub once : IsToCome strike.number memory.histories
+
+-- how far the strikes of a turn have come: those of the run were made, and the rest of the plan is still to come
+pub record IsAlong (turn : ℕ) (first : Words) (plan : List Strike) (memory : Words) (rest : List Strike) : Type 0 where
+  pub run : List Strike
+  pub split : plan ≡ run ++ rest
+  pub early : All (λ strike. strike.at ≤ turn) run
+  pub memory_is : memory ≡ record first { histories = fold with_strike first.histories run }
 
 -- ---- which flips came
 
