@@ -57,5 +57,5 @@ returns-clause-made c =
     let written = written_one old.memory Store (word_of asked.addr) asked.len (merged _ asked.addr asked.len c.args.value) in
     closed_seen old is begun asked c.with_word.result written.values _ c.end_turn.new.memory c.end_turn.new.transfers (c.end_turn.ensures.memory ∙ ap ended (c.write_part-answer.ensures.stored ∙ written.is)) c.end_turn.ensures.transfers c.end_turn.ensures.reserved
     (c.with_word.ensures ∙ word_made old is begun asked (word_of asked.addr) c.syndrome_of-syn.result (part_asked asked c.requires.kind short.0) at (c.syndrome_of-syn.ensures ∙ ap syndrome_of_answer c.write_part-answer.ensures.answer ∙ part_syndrome old.memory c.args.asked.addr)) _ written.values_are
-    ∙ ap (made asked) (merged_is old is Store ByPartStore asked.addr asked.len c.args.value (ram_above _ asked.addr asked.len in_ram) at (part_way asked.len _ short.0))
+    ∙ ap (made asked) (merged_is old is Store ByPartStore asked.addr asked.len c.args.value (ram_above _ asked.addr asked.len in_ram) at (part_way asked.len (history_at (place_of (word_of asked.addr)) old.memory.histories) short.0))
     ∙ ap (λ (s : MemoryState). made asked (merged_in asked.addr asked.len c.args.value s)) c.self.view_is
