@@ -1,9 +1,9 @@
 -- The bus as its users see it.
-use Rattle.std.specs.Prelude.{ℕ, ◌+◌, ◌-◌, ◌*◌, ◌/◌, ◌%◌, ◌^◌, ◌==◌, ◌&&◌, nat_lt, Bool, true, false, List, [], ◌∷◌, ◌++◌, length, if◌then◌else◌}
+use Rattle.std.specs.Prelude.{ℕ, ◌+◌, ◌-◌, ◌*◌, ◌/◌, ◌%◌, ◌^◌, ◌==◌, ◌&&◌, nat_lt, Bool, true, false, List, [], ◌∷◌, ◌++◌, length, Result, Ok, Err, if◌then◌else◌}
 use Rattle.bus_memory.specs.MemoryState.{MemoryState, words_met, is_bad_at, value_at, stored, merged_in}
-use Rattle.lf_model.specs.Bus.Status.{AhbStatus, status_start, status_by}
 use Rattle.lf_model.specs.Bus.Words.{word_of}
 use Rattle.lf_model.specs.Records.BusMemory.{with_answer}
+use Rattle.lf_model.specs.declared.bus.Bad.{Bad}
 use Rattle.lf_model.specs.declared.bus.Entry.{Entry}
 use Rattle.lf_model.specs.declared.bus.OpKind.{OpKind}
 use Rattle.lf_model.specs.declared.bus.OpKind.TheVariants as ops
@@ -15,6 +15,7 @@ use Rattle.lf_model.specs.declared.bus.Why.{Why}
 use Rattle.lf_model.specs.declared.bus.Why.TheVariants as whys
 use Rattle.lf_model.specs.declared.config.Config.{Config}
 use Rattle.lf_model.specs.declared.setup.Setup.{Setup}
+use Rattle.ram_words.specs.declared.answer.Got.{Got}
 use Rattle.ahb_bus.specs.declared.record.Who.{Who}
 
 pub record BusState : Type 0 where
@@ -23,8 +24,6 @@ pub record BusState : Type 0 where
   pub log : List Entry
   -- the transfers so far, with what memory answered
   pub transfers : List Transfer
-  -- AHBSTAT
-  pub status : AhbStatus
   -- a turn is begun: its flips struck, and its transfer is still to come
   pub begun : Bool
   -- of each word of RAM, from the first address on, the number last written
@@ -50,6 +49,10 @@ memory_of bus = record {
   values = bus.values;
   room = most_transfers bus.setup.config;
 }
+
+-- the bytes of RAM
+abbrev pub ram_of : BusState → ℕ
+ram_of bus = 4 * length bus.values
 
 -- ---- turns
 
@@ -77,7 +80,6 @@ abbrev pub after_turn : Transfer → List Entry → List ℕ → BusState → Bu
 after_turn asked entries values bus = record bus {
   log = bus.log ++ entries;
   transfers = bus.transfers ++ answered bus asked ∷ [];
-  status = status_by bus.status (answered bus asked);
   begun = false;
   values = values;
 }
@@ -97,6 +99,11 @@ store_entry who p = record { got = 0; put = p.value; core = who.master; k = p.k;
 -- the bytes of a word from an address on, as a number
 abbrev pub part_of : ℕ → ℕ → ℕ → ℕ
 part_of word addr len = word / 2 ^ (8 * (4 - addr % 4 - len)) % 2 ^ (8 * len)
+
+-- the word that an atomic read, 0 where it was bad
+abbrev pub word_of_answer : Result Got Bad → ℕ
+word_of_answer (Ok got) = got.value
+word_of_answer (Err bad) = 0
 
 -- the entry of an atomic, which reads this word
 abbrev pub atomic_entry : Who → Pending → ℕ → Entry

@@ -1,7 +1,6 @@
 -- What the bus keeps, and what of it its users see.
 use Rattle.std.specs.Prelude.{◌≡◌, ℕ, ◌+◌, ◌^◌, ◌<◌, ◌≤◌, List, length, count_by}
 use Rattle.std.specs.List.{AllByRecursion}
-use Rattle.lf_model.specs.Bus.Status.{status_after}
 use Rattle.lf_model.specs.Bus.Walk.{scrubber}
 use Rattle.lf_model.specs.Ledger.Steps.{own_transfers}
 use Rattle.lf_model.specs.Once.{HasMaster}
@@ -17,7 +16,6 @@ seen bus = record {
   setup = bus.setup.value;
   log = bus.log.entries;
   transfers = bus.memory.transfers;
-  status = bus.status;
   begun = bus.memory.begun;
   values = bus.memory.values;
 }

@@ -149,15 +149,12 @@ module _ (old : Inside) (is : IsBusMemory old) where
 
   -- ---- the turn's transfer
 
-  module _ (begun : old.begun ≡ true) where
-    room_for_items : length old.transfers.items < vec_capacity old.transfers
-    room_for_items = let within = is.within in let e : turns_struck (length old.transfers.items) old.begun ≡ length old.transfers.items + 1 = ap (turns_struck (length old.transfers.items)) begun in omega (arith, within, e)
-
+  module _ (begun : old.begun ≡ true) (room : length old.transfers.items < vec_capacity old.transfers) where
     pub room_for : vec_len old.transfers < vec_capacity old.transfers
-    room_for = let fits = room_for_items in omega (arith, fits, old.transfers.ok.0)
+    room_for = omega (arith, room, old.transfers.ok.0)
 
     pub past_fits : length old.memory.past + 1 < 2 ^ 32
-    past_fits = let fits = room_for_items in omega (arith, fits, is.kept.past, is.room)
+    past_fits = omega (arith, room, is.kept.past, is.room)
 
     words_begun_is : words_at old.script.value old.transfers.items true ≡ words_at old.script.value old.transfers.items old.begun
     words_begun_is = ap (words_at old.script.value old.transfers.items) (sym begun)
@@ -194,11 +191,10 @@ module _ (old : Inside) (is : IsBusMemory old) where
             let items : transfers.items ≡ old.transfers.items ++ with_answer (words_at old.script.value old.transfers.items true) asked ∷ [] =
             noted ∙ ap (λ (t : Transfer). old.transfers.items ++ t ∷ []) (answer ∙ ap (λ (ws : List Word). with_answer ws asked) (sym words_begun_is)) in
             let long : length transfers.items ≡ length old.transfers.items + 1 = ap (length {A = Transfer}) noted ∙ length-append old.transfers.items (transfer ∷ []) in
-            let fits = room_for_items in
             record {
               kept = rw (items, written) after;
               room = rw reserved is.room;
-              within = omega (arith, long, fits, reserved);
+              within = omega (arith, long, room, reserved);
               flips = is.flips;
             }
 
@@ -339,6 +335,9 @@ fix_syndrome m addr few = by (bad_in m addr) (is_fixed_word (history_at (place_o
 
 pub begun_in : (old : Inside) (s : MemoryState) → seen old ≡ s → s.begun ≡ true → old.begun ≡ true
 begun_in old s view begun = ap (λ (m : MemoryState). m.begun) view ∙ begun
+
+pub room_in : (old : Inside) (s : MemoryState) → seen old ≡ s → length s.transfers < s.room → length old.transfers.items < vec_capacity old.transfers
+room_in old s view room = subst (λ (m : MemoryState). length m.transfers < m.room) (sym view) room
 
 pub in_array : (old : Inside) (s : MemoryState) (addr len : ℕ) → IsBusMemory old → seen old ≡ s → IsTrue (is_in_ram (4 * length s.values) addr len)
     → IsTrue (is_in_ram (4 * length old.memory.histories) addr len)

@@ -1,6 +1,6 @@
 -- What is kept of memory over the transfers, and what of it its users see.
 use Rattle.std.specs.Prelude.{ℕ, ◌+◌, ◌^◌, ◌<◌, ◌≤◌, length, vec_capacity}
-use Rattle.bus_memory.specs.Kept.{turns_struck, IsKept}
+use Rattle.bus_memory.specs.Kept.{IsKept}
 use Rattle.bus_memory.specs.MemoryState.{MemoryState}
 use Rattle.bus_memory.specs.declared.memory.BusMemory.TheInside.{Inside}
 
@@ -15,7 +15,7 @@ seen m = record {
 
 pub record IsBusMemory (m : Inside) : Type 0 where
   pub kept : IsKept m.script.value m.transfers.items m.begun m.memory m.plan
-  -- transfers can be counted, and there is room for that of the turn begun
+  -- transfers can be counted
   pub room : vec_capacity m.transfers < 2 ^ 32
-  pub within : turns_struck (length m.transfers.items) m.begun ≤ vec_capacity m.transfers
+  pub within : length m.transfers.items ≤ vec_capacity m.transfers
   pub flips : length m.script.value ≤ 2 ^ 32

@@ -83,8 +83,7 @@ impl BusMemory {
 
     /// A turn begins: the flips of its number strike memory, in the order of the script.
     pub fn begin(&mut self)
-        requires none_begun { self.old.begun ≡ false }
-        requires room { length self.old.transfers < self.old.room }
+        requires { self.old.begun ≡ false }
         ensures { self.new ≡ record self.old { begun = true } }
     {
         let turn = self.transfers.len() as u32;
@@ -95,6 +94,7 @@ impl BusMemory {
     /// The turn's transfer reads a line, at a multiple of 32 in RAM: a fill of a cache, or a look of the scrubber.
     pub fn read_line(&mut self, asked: Transfer) -> Line
         requires begun { self.old.begun ≡ true }
+        requires room { length self.old.transfers < self.old.room }
         requires kind { reads_line asked.kind ≡ true }
         requires in_ram { IsTrue (is_in_ram (ram_of self.old) asked.addr 32) }
         requires aligned { asked.addr % 32 ≡ 0 }
@@ -114,6 +114,7 @@ impl BusMemory {
     /// The turn's transfer is a snoop, which reads and writes nothing.
     pub fn snoop(&mut self, asked: Transfer)
         requires begun { self.old.begun ≡ true }
+        requires room { length self.old.transfers < self.old.room }
         requires kind { asked.kind ≡ Snoop }
         ensures { self.new ≡ made asked self.old }
     {
@@ -130,6 +131,7 @@ impl BusMemory {
     /// The store is of a byte or half, and its word is bad: two different bits of it are flipped. Nothing is written.
     pub fn store(&mut self, asked: Transfer, value: u64) -> Result<u8, Bad>
         requires begun { self.old.begun ≡ true }
+        requires room { length self.old.transfers < self.old.room }
         requires kind { asked.kind ≡ Store }
         requires length { is_length asked.len ≡ true }
         requires in_ram { IsTrue (is_in_ram (ram_of self.old) asked.addr asked.len) }
@@ -152,6 +154,7 @@ impl BusMemory {
     /// A store of a byte or half.
     fn store_part(&mut self, asked: Transfer, value: u32) -> Result<u8, Bad>
         requires begun { self.old.begun ≡ true }
+        requires room { length self.old.transfers < self.old.room }
         requires kind { asked.kind ≡ Store }
         requires part { IsTrue (is_part asked.len) }
         requires in_ram { IsTrue (is_in_ram (ram_of self.old) asked.addr asked.len) }
@@ -169,6 +172,7 @@ impl BusMemory {
     /// A store of a word.
     fn store_word(&mut self, asked: Transfer, value: u32)
         requires begun { self.old.begun ≡ true }
+        requires room { length self.old.transfers < self.old.room }
         requires kind { asked.kind ≡ Store }
         requires length { asked.len ≡ 4 }
         requires in_ram { IsTrue (is_in_ram (ram_of self.old) asked.addr 4) }
@@ -183,6 +187,7 @@ impl BusMemory {
     /// A store of two words, the higher half first.
     fn store_double(&mut self, asked: Transfer, value: u64)
         requires begun { self.old.begun ≡ true }
+        requires room { length self.old.transfers < self.old.room }
         requires kind { asked.kind ≡ Store }
         requires length { asked.len ≡ 8 }
         requires in_ram { IsTrue (is_in_ram (ram_of self.old) asked.addr 8) }
@@ -204,6 +209,7 @@ impl BusMemory {
     /// The word is bad: two different bits of it are flipped. Nothing is written.
     pub fn exchange(&mut self, asked: Transfer, value: u32) -> Result<Got, Bad>
         requires begun { self.old.begun ≡ true }
+        requires room { length self.old.transfers < self.old.room }
         requires kind { asked.kind ≡ Atomic }
         requires length { IsTrue (asked.len == 1 || asked.len == 4) }
         requires in_ram { IsTrue (is_in_ram (ram_of self.old) asked.addr asked.len) }
@@ -222,6 +228,7 @@ impl BusMemory {
     /// can be corrected. No word's value changes.
     pub fn fix(&mut self, asked: Transfer) -> Fixed
         requires begun { self.old.begun ≡ true }
+        requires room { length self.old.transfers < self.old.room }
         requires kind { asked.kind ≡ Fix }
         requires in_ram { IsTrue (is_in_ram (ram_of self.old) asked.addr 4) }
         requires aligned { asked.addr % 4 ≡ 0 }

@@ -3,7 +3,7 @@ use Rattle.coded_words.specs.Words.{Words, ended}
 use Rattle.bus_memory.specs.Answers.{syndrome_of_answer, syndrome_of_read, syndrome_of_fix}
 use Rattle.bus_memory.specs.MemoryState.{MemoryState, value_shown, read_answer, store_answer, fix_answer, merged_in, made}
 use Rattle.bus_memory.proofs.AskedLemmas.{part_asked, whole_asked, atomic_asked, fix_asked, snoop_asked}
-use Rattle.bus_memory.proofs.InsideLemmas.{begun_in, in_array, word_there, word_at, room_for, past_fits, closed, closed_seen, word_made, none_made, written_one, writes_one, writes_store_word, writes_fix, merged_is, part_way, part_syndrome, read_syndrome, fix_syndrome, part_is, read_is, fix_is, peek_is, part_short, in_word, ram_above}
+use Rattle.bus_memory.proofs.InsideLemmas.{begun_in, room_in, in_array, word_there, word_at, room_for, past_fits, closed, closed_seen, word_made, none_made, written_one, writes_one, writes_store_word, writes_fix, merged_is, part_way, part_syndrome, read_syndrome, fix_syndrome, part_is, read_is, fix_is, peek_is, part_short, in_word, ram_above}
 use Rattle.bus_memory.proofs.WriteLemmas.{writes_nothing, writes_double}
 use Rattle.lf_model.specs.Bus.Words.{word_of, write_of}
 use Rattle.lf_model.specs.declared.bus.TurnKind.TheVariants.{Store, Atomic, Snoop, Fix}
@@ -18,7 +18,7 @@ use Rattle.bus_memory.proofs.memory.BusMemory.fix.Goals as goal
 pub end_turn-requires-clause-past : goal.end_turn-requires-clause-past
 end_turn-requires-clause-past c =
     let old = c.self.inside in
-    let fits = past_fits old c.self.invariant (begun_in old c.args.self.now c.self.view_is c.requires.begun) in
+    let fits = past_fits old c.self.invariant (begun_in old c.args.self.now c.self.view_is c.requires.begun) (room_in old c.args.self.now c.self.view_is c.requires.room) in
     let same = ap (λ (m : Words). m.past) c.fix-answer.ensures.written_back ∙ past_written _ _ _ old.memory in
     rw same fits
 
@@ -27,11 +27,12 @@ invariant_of-self c =
     let old = c.self.inside in
     let is = c.self.invariant in
     let begun = begun_in old c.args.self.now c.self.view_is c.requires.begun in
+    let room = room_in old c.args.self.now c.self.view_is c.requires.room in
     let asked = c.args.asked in
     let at = word_at _ asked.addr (in_array old c.args.self.now asked.addr 4 is c.self.view_is c.requires.in_ram) c.requires.aligned in
     let written = fix_written old.memory asked.addr c.fix-answer.new.self c.fix-answer.ensures.written_back in
-    closed old is begun asked c.with_word.result written.values _ c.end_turn.new.memory c.end_turn.new.transfers (c.end_turn.ensures.memory ∙ ap ended written.is) c.end_turn.ensures.transfers c.end_turn.ensures.reserved
-    (c.with_word.ensures ∙ word_made old is begun asked asked.addr c.syndrome_met-syn.result (fix_asked asked c.requires.kind) at
+    closed old is begun room asked c.with_word.result written.values _ c.end_turn.new.memory c.end_turn.new.transfers (c.end_turn.ensures.memory ∙ ap ended written.is) c.end_turn.ensures.transfers c.end_turn.ensures.reserved
+    (c.with_word.ensures ∙ word_made old is begun room asked asked.addr c.syndrome_met-syn.result (fix_asked asked c.requires.kind) at
     (c.syndrome_met-syn.ensures ∙ ap syndrome_of_fix c.fix-answer.ensures.answer ∙ fix_syndrome old.memory asked.addr (let h = history_at (place_of asked.addr) old.memory.histories in let a = few_turned (standing word_budget h) in let b = few h in omega (arith, a, b)))) written.long
     (writes_fix asked old.memory.histories c.requires.kind c.requires.aligned at.above at.within)
 
@@ -47,10 +48,11 @@ returns-clause-made c =
     let old = c.self.inside in
     let is = c.self.invariant in
     let begun = begun_in old c.args.self.now c.self.view_is c.requires.begun in
+    let room = room_in old c.args.self.now c.self.view_is c.requires.room in
     let asked = c.args.asked in
     let at = word_at _ asked.addr (in_array old c.args.self.now asked.addr 4 is c.self.view_is c.requires.in_ram) c.requires.aligned in
     let written = fix_written old.memory asked.addr c.fix-answer.new.self c.fix-answer.ensures.written_back in
-    closed_seen old is begun asked c.with_word.result written.values _ c.end_turn.new.memory c.end_turn.new.transfers (c.end_turn.ensures.memory ∙ ap ended written.is) c.end_turn.ensures.transfers c.end_turn.ensures.reserved
-    (c.with_word.ensures ∙ word_made old is begun asked asked.addr c.syndrome_met-syn.result (fix_asked asked c.requires.kind) at
+    closed_seen old is begun room asked c.with_word.result written.values _ c.end_turn.new.memory c.end_turn.new.transfers (c.end_turn.ensures.memory ∙ ap ended written.is) c.end_turn.ensures.transfers c.end_turn.ensures.reserved
+    (c.with_word.ensures ∙ word_made old is begun room asked asked.addr c.syndrome_met-syn.result (fix_asked asked c.requires.kind) at
     (c.syndrome_met-syn.ensures ∙ ap syndrome_of_fix c.fix-answer.ensures.answer ∙ fix_syndrome old.memory asked.addr (let h = history_at (place_of asked.addr) old.memory.histories in let a = few_turned (standing word_budget h) in let b = few h in omega (arith, a, b)))) old.memory.values (written.values_are ∙ c.fix-answer.ensures.values)
     ∙ ap (made asked) c.self.view_is

@@ -3,7 +3,7 @@ use Rattle.coded_words.specs.Words.{Words, ended}
 use Rattle.bus_memory.specs.Answers.{syndrome_of_answer, syndrome_of_read, syndrome_of_fix}
 use Rattle.bus_memory.specs.MemoryState.{MemoryState, value_shown, read_answer, store_answer, fix_answer, merged_in, made}
 use Rattle.bus_memory.proofs.AskedLemmas.{part_asked, whole_asked, atomic_asked, fix_asked, snoop_asked}
-use Rattle.bus_memory.proofs.InsideLemmas.{begun_in, in_array, word_there, word_at, room_for, past_fits, closed, closed_seen, word_made, none_made, written_one, writes_one, writes_store_word, writes_fix, merged_is, part_way, part_syndrome, read_syndrome, fix_syndrome, part_is, read_is, fix_is, peek_is, part_short, in_word, ram_above}
+use Rattle.bus_memory.proofs.InsideLemmas.{begun_in, room_in, in_array, word_there, word_at, room_for, past_fits, closed, closed_seen, word_made, none_made, written_one, writes_one, writes_store_word, writes_fix, merged_is, part_way, part_syndrome, read_syndrome, fix_syndrome, part_is, read_is, fix_is, peek_is, part_short, in_word, ram_above}
 use Rattle.bus_memory.proofs.WriteLemmas.{writes_nothing, writes_double}
 use Rattle.lf_model.specs.Bus.Words.{word_of, write_of}
 use Rattle.lf_model.specs.declared.bus.TurnKind.TheVariants.{Store, Atomic, Snoop, Fix}
@@ -18,7 +18,8 @@ invariant_of-self c =
     let old = c.self.inside in
     let is = c.self.invariant in
     let begun = begun_in old c.args.self.now c.self.view_is c.requires.begun in
+    let room = room_in old c.args.self.now c.self.view_is c.requires.room in
     let in_ram = in_array old c.args.self.now c.args.asked.addr 8 is c.self.view_is c.requires.in_ram in
-    closed old is begun c.args.asked c.with_none.result _ _ c.end_turn.new.memory c.end_turn.new.transfers (c.end_turn.ensures.memory ∙ ap ended (double_written old.memory _ _ _ _ c.write_word.ensures c.write_word-2.ensures)) c.end_turn.ensures.transfers c.end_turn.ensures.reserved
-    (c.with_none.ensures ∙ none_made old is begun c.args.asked (whole_asked c.args.asked c.requires.kind (omega (arith, c.requires.length)))) (double_long old.memory _ _ _ _)
+    closed old is begun room c.args.asked c.with_none.result _ _ c.end_turn.new.memory c.end_turn.new.transfers (c.end_turn.ensures.memory ∙ ap ended (double_written old.memory _ _ _ _ c.write_word.ensures c.write_word-2.ensures)) c.end_turn.ensures.transfers c.end_turn.ensures.reserved
+    (c.with_none.ensures ∙ none_made old is begun room c.args.asked (whole_asked c.args.asked c.requires.kind (omega (arith, c.requires.length)))) (double_long old.memory _ _ _ _)
     (writes_double c.args.asked old.memory.histories c.requires.kind c.requires.length c.requires.aligned (ram_above _ c.args.asked.addr 8 in_ram) (second_within _ c.args.asked.addr in_ram))

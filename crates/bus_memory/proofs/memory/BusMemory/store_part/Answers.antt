@@ -3,7 +3,7 @@ use Rattle.coded_words.specs.Words.{Words, ended}
 use Rattle.bus_memory.specs.Answers.{syndrome_of_answer, syndrome_of_read, syndrome_of_fix}
 use Rattle.bus_memory.specs.MemoryState.{MemoryState, value_shown, read_answer, store_answer, fix_answer, merged_in, made}
 use Rattle.bus_memory.proofs.AskedLemmas.{part_asked, whole_asked, atomic_asked, fix_asked, snoop_asked}
-use Rattle.bus_memory.proofs.InsideLemmas.{begun_in, in_array, word_there, word_at, room_for, past_fits, closed, closed_seen, word_made, none_made, written_one, writes_one, writes_store_word, writes_fix, merged_is, part_way, part_syndrome, read_syndrome, fix_syndrome, part_is, read_is, fix_is, peek_is, part_short, in_word, ram_above}
+use Rattle.bus_memory.proofs.InsideLemmas.{begun_in, room_in, in_array, word_there, word_at, room_for, past_fits, closed, closed_seen, word_made, none_made, written_one, writes_one, writes_store_word, writes_fix, merged_is, part_way, part_syndrome, read_syndrome, fix_syndrome, part_is, read_is, fix_is, peek_is, part_short, in_word, ram_above}
 use Rattle.bus_memory.proofs.WriteLemmas.{writes_nothing, writes_double}
 use Rattle.lf_model.specs.Bus.Words.{word_of, write_of}
 use Rattle.lf_model.specs.declared.bus.TurnKind.TheVariants.{Store, Atomic, Snoop, Fix}
@@ -17,7 +17,7 @@ use Rattle.bus_memory.proofs.memory.BusMemory.store_part.Goals as goal
 pub end_turn-requires-clause-past : goal.end_turn-requires-clause-past
 end_turn-requires-clause-past c =
     let old = c.self.inside in
-    let fits = past_fits old c.self.invariant (begun_in old c.args.self.now c.self.view_is c.requires.begun) in
+    let fits = past_fits old c.self.invariant (begun_in old c.args.self.now c.self.view_is c.requires.begun) (room_in old c.args.self.now c.self.view_is c.requires.room) in
     let same = ap (λ (m : Words). m.past) c.write_part-answer.ensures.stored ∙ past_written _ _ _ old.memory in
     rw same fits
 
@@ -26,13 +26,14 @@ invariant_of-self c =
     let old = c.self.inside in
     let is = c.self.invariant in
     let begun = begun_in old c.args.self.now c.self.view_is c.requires.begun in
+    let room = room_in old c.args.self.now c.self.view_is c.requires.room in
     let asked = c.args.asked in
     let short = part_short c.args.asked.len c.requires.part in
     let in_ram = in_array old c.args.self.now asked.addr asked.len is c.self.view_is c.requires.in_ram in
     let at = word_there _ asked.addr asked.len in_ram short.1 in
     let written = written_one old.memory Store (word_of asked.addr) asked.len (merged _ asked.addr asked.len c.args.value) in
-    closed old is begun asked c.with_word.result written.values _ c.end_turn.new.memory c.end_turn.new.transfers (c.end_turn.ensures.memory ∙ ap ended (c.write_part-answer.ensures.stored ∙ written.is)) c.end_turn.ensures.transfers c.end_turn.ensures.reserved
-    (c.with_word.ensures ∙ word_made old is begun asked (word_of asked.addr) c.syndrome_of-syn.result (part_asked asked c.requires.kind short.0) at (c.syndrome_of-syn.ensures ∙ ap syndrome_of_answer c.write_part-answer.ensures.answer ∙ part_syndrome old.memory c.args.asked.addr)) written.long
+    closed old is begun room asked c.with_word.result written.values _ c.end_turn.new.memory c.end_turn.new.transfers (c.end_turn.ensures.memory ∙ ap ended (c.write_part-answer.ensures.stored ∙ written.is)) c.end_turn.ensures.transfers c.end_turn.ensures.reserved
+    (c.with_word.ensures ∙ word_made old is begun room asked (word_of asked.addr) c.syndrome_of-syn.result (part_asked asked c.requires.kind short.0) at (c.syndrome_of-syn.ensures ∙ ap syndrome_of_answer c.write_part-answer.ensures.answer ∙ part_syndrome old.memory c.args.asked.addr)) written.long
     (writes_one Store asked old.memory.histories c.requires.kind (λ w. refl) short.1 (in_word asked.addr asked.len c.requires.part c.requires.aligned) (ram_above _ asked.addr asked.len in_ram) (let w = at.within in place_same _ asked.addr (ram_above _ asked.addr asked.len in_ram) w))
 
 pub returns-clause-answer : goal.returns-clause-answer
@@ -50,12 +51,13 @@ returns-clause-made c =
     let old = c.self.inside in
     let is = c.self.invariant in
     let begun = begun_in old c.args.self.now c.self.view_is c.requires.begun in
+    let room = room_in old c.args.self.now c.self.view_is c.requires.room in
     let asked = c.args.asked in
     let short = part_short c.args.asked.len c.requires.part in
     let in_ram = in_array old c.args.self.now asked.addr asked.len is c.self.view_is c.requires.in_ram in
     let at = word_there _ asked.addr asked.len in_ram short.1 in
     let written = written_one old.memory Store (word_of asked.addr) asked.len (merged _ asked.addr asked.len c.args.value) in
-    closed_seen old is begun asked c.with_word.result written.values _ c.end_turn.new.memory c.end_turn.new.transfers (c.end_turn.ensures.memory ∙ ap ended (c.write_part-answer.ensures.stored ∙ written.is)) c.end_turn.ensures.transfers c.end_turn.ensures.reserved
-    (c.with_word.ensures ∙ word_made old is begun asked (word_of asked.addr) c.syndrome_of-syn.result (part_asked asked c.requires.kind short.0) at (c.syndrome_of-syn.ensures ∙ ap syndrome_of_answer c.write_part-answer.ensures.answer ∙ part_syndrome old.memory c.args.asked.addr)) _ written.values_are
+    closed_seen old is begun room asked c.with_word.result written.values _ c.end_turn.new.memory c.end_turn.new.transfers (c.end_turn.ensures.memory ∙ ap ended (c.write_part-answer.ensures.stored ∙ written.is)) c.end_turn.ensures.transfers c.end_turn.ensures.reserved
+    (c.with_word.ensures ∙ word_made old is begun room asked (word_of asked.addr) c.syndrome_of-syn.result (part_asked asked c.requires.kind short.0) at (c.syndrome_of-syn.ensures ∙ ap syndrome_of_answer c.write_part-answer.ensures.answer ∙ part_syndrome old.memory c.args.asked.addr)) _ written.values_are
     ∙ ap (made asked) (merged_is old is Store ByPartStore asked.addr asked.len c.args.value (ram_above _ asked.addr asked.len in_ram) at (part_way asked.len (history_at (place_of (word_of asked.addr)) old.memory.histories) short.0))
     ∙ ap (λ (s : MemoryState). made asked (merged_in asked.addr asked.len c.args.value s)) c.self.view_is
