@@ -1,4 +1,4 @@
-ghost use Rattle.std.specs.Prelude.{◌≡◌, ◌%◌, ◌/◌, ◌^◌, ◌<◌, ◌≤◌, ℕ, [], true, false, length, IsTrue, IfOk};
+ghost use Rattle.std.specs.Prelude.{◌≡◌, ◌+◌, ◌%◌, ◌/◌, ◌^◌, ◌<◌, ◌≤◌, ℕ, [], true, false, length, IsTrue, IfOk};
 ghost use Rattle.std.specs.List.{AllByRecursion};
 ghost use Rattle.bus_memory.specs.MemoryState.{value_shown};
 ghost use Rattle.bus_memory.specs.Strikes.{AimsAt};
@@ -37,7 +37,8 @@ impl Model for Bus {
 
 /// The transfers that all masters may make.
 fn most_transfers_of(config: &Config) -> u32
-    requires { most_transfers config.now < 2 ^ 32 }
+    requires steps { config.now.steps + 8 < 2 ^ 32 }
+    requires room { most_transfers config.now < 2 ^ 32 }
     ensures { result ≡ most_transfers config.now }
 {
     config.cores * (config.steps + 8) + config.scrub_turns
@@ -62,6 +63,7 @@ impl Bus {
         requires flips { length s.now.flips < 2 ^ 32 }
         requires aims { AllByRecursion (AimsAt (s.now.config.ram / 4)) s.now.flips }
         requires cores { s.now.config.cores ≤ 8 }
+        requires steps { s.now.config.steps + 8 < 2 ^ 32 }
         requires room { most_transfers s.now.config < 2 ^ 32 }
         requires log_room { most_entries s.now.config < 2 ^ 32 }
         ensures { IfOk result (λ bus. bus ≡ record { setup = s.now; log = []; transfers = []; begun = false; values = first_words s.now.config.ram s.now.image }) }

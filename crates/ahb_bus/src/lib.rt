@@ -4,8 +4,8 @@
 //! see the transfers so far, which are those of the definitions. Only `Bus::new` takes memory.
 #![tactic(auto)]
 
+mod arbiter;
 mod bus;
-mod grant;
 mod lines;
 mod record;
 mod single;
@@ -14,5 +14,5 @@ mod transfer;
 
 pub use bus::Bus;
 pub use bus_memory::Fixed;
-pub use grant::grant;
+pub use arbiter::grant;
 pub use record::Who;

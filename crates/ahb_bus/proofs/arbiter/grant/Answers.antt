@@ -1,0 +1,4 @@
+use Rattle.ahb_bus.proofs.arbiter.grant.Goals as goal
+
+pub returns : goal.returns
+returns c = ?

@@ -1,0 +1,20 @@
+use Rattle.std.proofs.Common.{◌≡◌, ◌^◌, ◌*◌, [], ◌∷◌, refl, sym, ap, ◌∙◌, arith}
+use Rattle.bus_memory.specs.MemoryState.{MemoryState, line_shown, fix_answer, store_answer, read_answer}
+use Rattle.lf_model.specs.declared.bus.Transfer.{Transfer}
+use Rattle.ahb_bus.specs.BusState.{BusState, memory_of, after_turn}
+use Rattle.ahb_bus.proofs.InsideLemmas.{memory_is, room_for, bus_read, seen_read, begun_in, left_in}
+use Rattle.ahb_bus.proofs.bus.Bus.fix_word.Goals as goal
+
+pub fix-requires-clause-room : goal.fix-requires-clause-room
+fix-requires-clause-room c =
+    let old = c.self.inside in
+    let is = c.self.invariant in
+    let left = left_in old c.args.self.now c.args.asked c.self.view_is c.requires.turn in
+    room_for old is c.args.asked left
+
+pub invariant_of-self : goal.invariant_of-self
+invariant_of-self c =
+    let old = c.self.inside in
+    let is = c.self.invariant in
+    let left = left_in old c.args.self.now c.args.asked c.self.view_is c.requires.turn in
+    bus_read old is c.args.asked left old.memory.values c.fix.ensures.made
