@@ -1,4 +1,3 @@
-pub mod Grant
 pub mod BusState
 pub mod Inside
 pub mod Asks

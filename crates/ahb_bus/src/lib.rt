@@ -4,7 +4,6 @@
 //! see the transfers so far, which are those of the definitions. Only `Bus::new` takes memory.
 #![tactic(auto)]
 
-mod arbiter;
 mod bus;
 mod lines;
 mod record;
@@ -14,5 +13,4 @@ mod transfer;
 
 pub use bus::Bus;
 pub use bus_memory::Fixed;
-pub use arbiter::grant;
 pub use record::Who;
