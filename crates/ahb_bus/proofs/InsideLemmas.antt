@@ -1,5 +1,5 @@
 -- What holds of the bus goes on to hold as a turn's transfer is made, and what users see of it.
-use Rattle.std.proofs.Common.{◌≡◌, ℕ, ◌+◌, ◌-◌, ◌*◌, ◌/◌, ◌%◌, ◌^◌, ◌<◌, ◌≤◌, ◌&&◌, ◌||◌, cond, nat_lt, nat_eq, slice_set, Result, Ok, Err, IsTrue, inl, inr, Bool, true, false, List, [], ◌∷◌, ◌++◌, length, refl, sym, ap, ap₂, ◌∙◌, subst, arith}
+use Rattle.std.proofs.Common.{◌≡◌, ℕ, ◌+◌, ◌/◌, ◌%◌, ◌^◌, ◌<◌, ◌≤◌, ◌&&◌, ◌||◌, cond, nat_lt, nat_eq, slice_set, Ok, Err, IsTrue, inl, inr, Bool, true, false, List, [], ◌∷◌, ◌++◌, length, refl, sym, ap, ap₂, ◌∙◌, subst, arith}
 use Rattle.std.proofs.lemmas.List.{append-nil}
 use Rattle.std.specs.Prelude.{count_by, is_ok, Contains}
 use Rattle.std.proofs.lemmas.Bool.{cases_eq}
@@ -24,7 +24,7 @@ use Rattle.lf_model.specs.declared.bus.Transfer.{Transfer}
 use Rattle.lf_model.specs.declared.flip.Flip.{Flip}
 use Rattle.order_log.specs.LogState.{LogState}
 use Rattle.ahb_bus.specs.Asks.{IsCoreTurn, HasEntryLeft, HasLeft}
-use Rattle.ahb_bus.specs.BusState.{BusState, most_transfers, most_entries, memory_of, asked_by, after_turn, atomic_entry, word_of_answer}
+use Rattle.ahb_bus.specs.BusState.{BusState, memory_of, asked_by, after_turn, atomic_entry, word_of_answer}
 use Rattle.ahb_bus.specs.Inside.{seen, AreShared, IsBus}
 use Rattle.ahb_bus.specs.declared.bus.Bus.TheInside.{Inside}
 use Rattle.ahb_bus.proofs.ShareLemmas.{room_left, log_room_left, shared_made, shared_entered, core_left}

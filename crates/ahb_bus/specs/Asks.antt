@@ -1,5 +1,5 @@
 -- What a turn asks of its master.
-use Rattle.std.specs.Prelude.{◌≡◌, ℕ, ◌+◌, ◌<◌, Bool, true, false, List, length, count_by}
+use Rattle.std.specs.Prelude.{◌≡◌, ◌+◌, ◌<◌, Bool, true, false, List, length, count_by}
 use Rattle.lf_model.specs.Bus.Walk.{scrubber}
 use Rattle.lf_model.specs.Ledger.Steps.{own_transfers}
 use Rattle.lf_model.specs.Once.{HasMaster}

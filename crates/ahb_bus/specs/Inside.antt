@@ -1,5 +1,5 @@
 -- What the bus keeps, and what of it its users see.
-use Rattle.std.specs.Prelude.{◌≡◌, ℕ, ◌+◌, ◌^◌, ◌<◌, ◌≤◌, List, length, count_by}
+use Rattle.std.specs.Prelude.{◌≡◌, ℕ, ◌+◌, ◌<◌, ◌≤◌, List, length, count_by}
 use Rattle.std.specs.List.{AllByRecursion}
 use Rattle.lf_model.specs.Bus.Walk.{scrubber}
 use Rattle.lf_model.specs.Ledger.Steps.{own_transfers}

@@ -1,5 +1,5 @@
 -- What memory answers to a transfer: how many words it read, and their syndromes.
-use Rattle.std.proofs.Common.{◌≡◌, ℕ, zero, suc, ◌+◌, ◌-◌, ◌*◌, ◌/◌, ◌%◌, ◌^◌, ◌<◌, ◌≤◌, Bool, true, false, cond, nat_lt, List, [], ◌∷◌, length, map, refl, sym, ap, ap₂, ◌∙◌, arith}
+use Rattle.std.proofs.Common.{◌≡◌, ℕ, zero, suc, ◌+◌, ◌*◌, ◌%◌, ◌^◌, ◌<◌, ◌≤◌, Bool, true, false, cond, nat_lt, List, [], ◌∷◌, length, map, refl, ap, ap₂, ◌∙◌, arith}
 use Rattle.std.specs.Prelude.{fold}
 use Rattle.std.specs.List.{AllByRecursion, range_with_len}
 use Rattle.std.proofs.lemmas.Bool.{false≢true, lt-ltb, ltb-true}
@@ -84,11 +84,14 @@ none_answered t words is = ap (answered_with t words) is
 words_from : (count line j n : ℕ) → line % 32 ≡ 0 → ram_first ≤ line → place_of line + 8 ≤ count → j + n ≤ 8
     → AllByRecursion (IsWordAt count) (map (λ i. line + 4 * i) (range_with_len j n))
 words_from count line j zero aligned above within few = tt
-words_from count line j (suc n) aligned above within few = (record {
-  aligned = omega arith;
-  above = omega arith;
-  within = omega arith;
-}, words_from count line (j + 1) n aligned above within (omega arith))
+words_from count line j (suc n) aligned above within few = (
+  record {
+    aligned = omega arith;
+    above = omega arith;
+    within = omega arith;
+  },
+  words_from count line (j + 1) n aligned above within (omega arith),
+)
 
 pub line_words : (count line : ℕ) → line % 32 ≡ 0 → ram_first ≤ line → place_of line + 8 ≤ count → AllByRecursion (IsWordAt count) (words_of_line line)
 line_words count line aligned above within = words_from count line 0 8 aligned above within (omega arith)

@@ -1,5 +1,5 @@
 -- A turn begins: its flips strike the definitions' words and the array alike.
-use Rattle.std.proofs.Common.{◌≡◌, ◌≢◌, ℕ, zero, suc, ◌+◌, ◌<◌, ◌≤◌, ◌%◌, Bool, true, false, ◌||◌, cond, nat_eq, List, [], ◌∷◌, ◌++◌, length, map, Option, Some, None, refl, sym, ap, ap₂, ◌∙◌, subst, ◌⊎◌, inl, inr, ⊎_elim, arith}
+use Rattle.std.proofs.Common.{◌≡◌, ℕ, suc, ◌+◌, ◌<◌, ◌≤◌, ◌%◌, Bool, true, false, ◌||◌, cond, nat_eq, List, [], ◌∷◌, ◌++◌, length, map, Option, Some, None, refl, sym, ap, ◌∙◌, subst, ◌⊎◌, inl, inr, ⊎_elim, arith}
 use Rattle.std.specs.Prelude.{fold, slice_get}
 use Rattle.std.specs.List.{AllByRecursion, list_any, range_with_len, zip}
 use Rattle.std.proofs.lemmas.Bool.{cases_eq, cases_Bool, false≢true, eq-eqb, ne_eqb, eqb-true}
@@ -12,17 +12,16 @@ use Rattle.flip_ledger.specs.declared.plan.Strike.{Strike}
 use Rattle.flip_ledger.specs.declared.plan.Target.{Target}
 use Rattle.flip_ledger.specs.declared.plan.Target.TheVariants as targets
 use Rattle.coded_words.specs.Words.{IsToCome}
-use Rattle.lf_model.proofs.EachLemmas.{each_second}
 use Rattle.lf_model.specs.Bus.Words.{Word, is_at, struck_word, strike_word}
 use Rattle.lf_model.specs.Caches.Slot.{history_at, befalls}
 use Rattle.lf_model.specs.Course.Arrays.{struck_by}
-use Rattle.lf_model.specs.Flips.{Moment, word_bits}
+use Rattle.lf_model.specs.Flips.{Moment}
 use Rattle.lf_model.specs.Flips.Moment.{Struck}
 use Rattle.lf_model.specs.Start.{ram_first}
 use Rattle.lf_model.specs.declared.flip.Flip.{Flip}
 use Rattle.lf_model.specs.declared.flip.Flip.TheVariants.{Mem, Reg, Tag, Line}
-use Rattle.bus_memory.specs.Followed.{address_of, IsUnstruck, Follows}
-use Rattle.bus_memory.specs.Strikes.{struck_in, with_strike, FlipCame, CameBefore, Came, AimsAt, IsCovered}
+use Rattle.bus_memory.specs.Followed.{Follows}
+use Rattle.bus_memory.specs.Strikes.{struck_in, with_strike, CameBefore, Came, AimsAt, IsCovered}
 use Rattle.bus_memory.proofs.FollowLemmas.{is_at_map, follows_one}
 use Rattle.bus_memory.proofs.PlaceLemmas.{address_back}
 use Rattle.ram_words.specs.Ram.{place_of}
@@ -42,10 +41,10 @@ pub follows_struck : (number addr bit : ℕ) (words : List Word) (hs : List (Lis
 follows_struck number addr bit words hs aligned above within covered follows =
     follows_one (struck_word number addr bit) (struck_by number bit) (place_of addr) words hs within (struck_addr number addr bit)
     (λ w same.
-      ap (λ (b : Bool). (cond b (record w { history = Struck number bit ∷ w.history }) w).history) (eq-eqb w.addr addr (same ∙ address_back addr aligned above)))
+    ap (λ (b : Bool). (cond b (record w { history = Struck number bit ∷ w.history }) w).history) (eq-eqb w.addr addr (same ∙ address_back addr aligned above)))
     (λ w _ other.
-      ap (λ (b : Bool). (cond b (record w { history = Struck number bit ∷ w.history }) w).history)
-      (ne_eqb w.addr addr (λ e. other (e ∙ sym (address_back addr aligned above)))))
+    ap (λ (b : Bool). (cond b (record w { history = Struck number bit ∷ w.history }) w).history)
+    (ne_eqb w.addr addr (λ e. other (e ∙ sym (address_back addr aligned above)))))
     (λ none un. absurd (false≢true (sym none ∙ ap (λ (a : ℕ). list_any (is_at a) words) (address_back addr aligned above) ∙ covered)))
     follows
 
@@ -81,10 +80,10 @@ begun_follows turn k (Mem t addr bit ∷ flips) words hs aims covered follows =
     by (λ ws hs' aims' covered' follows'. begun_follows turn (k + 1) flips ws hs' aims' covered' follows') (nat_eq t turn)
   where
     by : ((ws : List Word) (hs' : List (List Moment)) → AllByRecursion (AimsAt (length hs')) flips → AllByRecursion (IsCovered ws) flips → Follows ws hs'
-      → Follows (fold (strike_flip turn) ws (numbered_from (k + 1) flips)) (fold with_strike hs' (due turn (k + 1) flips)))
-      → (b : Bool)
-      → Follows (fold (strike_flip turn) (cond b (map (struck_word k addr bit) words) words) (numbered_from (k + 1) flips))
-      (fold with_strike hs (cond b (strike_of (k, Mem t addr bit) ∷ due turn (k + 1) flips) (due turn (k + 1) flips)))
+        → Follows (fold (strike_flip turn) ws (numbered_from (k + 1) flips)) (fold with_strike hs' (due turn (k + 1) flips)))
+        → (b : Bool)
+        → Follows (fold (strike_flip turn) (cond b (map (struck_word k addr bit) words) words) (numbered_from (k + 1) flips))
+        (fold with_strike hs (cond b (strike_of (k, Mem t addr bit) ∷ due turn (k + 1) flips) (due turn (k + 1) flips)))
     by rest true =
         rest (map (struck_word k addr bit) words) (befalls (struck_by k bit) (place_of addr) hs)
         (rw (length-set hs (place_of addr) (struck_by k bit (history_at (place_of addr) hs))) aims.1)
@@ -180,13 +179,16 @@ due_of_script script count turn k (Mem t addr bit ∷ flips) are aims =
     by (due_of_script script count turn (k + 1) flips (λ j. are (suc j) ∙ ap (slice_get script) (omega arith)) aims.1) (nat_eq t turn) refl
   where
     by : AllByRecursion (IsOfScript script count turn) (due turn (k + 1) flips) → (b : Bool) → nat_eq t turn ≡ b
-      → AllByRecursion (IsOfScript script count turn) (cond b (strike_of (k, Mem t addr bit) ∷ due turn (k + 1) flips) (due turn (k + 1) flips))
-    by rest true is = (record {
-      addr = addr;
-      flip = ap (slice_get script) (omega arith) ∙ sym (are 0) ∙ ap (λ (now : ℕ). Some (Mem now addr bit)) (eqb-true t turn is);
-      target = refl;
-      aims = aims.0;
-    }, rest)
+        → AllByRecursion (IsOfScript script count turn) (cond b (strike_of (k, Mem t addr bit) ∷ due turn (k + 1) flips) (due turn (k + 1) flips))
+    by rest true is = (
+      record {
+        addr = addr;
+        flip = ap (slice_get script) (omega arith) ∙ sym (are 0) ∙ ap (λ (now : ℕ). Some (Mem now addr bit)) (eqb-true t turn is);
+        target = refl;
+        aims = aims.0;
+      },
+      rest,
+    )
     by rest false is = rest
 due_of_script script count turn k (Reg core step cell bit ∷ flips) are aims = due_of_script script count turn (k + 1) flips (λ j. are (suc j) ∙ ap (slice_get script) (omega arith)) aims.1
 due_of_script script count turn k (Tag core step fetch way set byte bit ∷ flips) are aims = due_of_script script count turn (k + 1) flips (λ j. are (suc j) ∙ ap (slice_get script) (omega arith)) aims.1
@@ -254,8 +256,8 @@ came_due script count turn i place [] of has = absurd has
 came_due script count turn i place (s ∷ run) of has =
     ⊎_elim
     (λ it.
-      let same : of.0.addr ≡ it.1 = word_is of.0.addr it.1 (sym of.0.target ∙ it.2.0) in
-      subst (CameBefore (turn + 1) place) (sym of.0.flip ∙ ap (slice_get script) it.0) (omega arith, ap place_of same ∙ it.2.1))
+    let same : of.0.addr ≡ it.1 = word_is of.0.addr it.1 (sym of.0.target ∙ it.2.0) in
+    subst (CameBefore (turn + 1) place) (sym of.0.flip ∙ ap (slice_get script) it.0) (omega arith, ap place_of same ∙ it.2.1))
     (λ later. came_due script count turn i place run of.1 later) has
 
 pub came_next : (script : List Flip) (count turn : ℕ) (hs : List (List Moment)) (run : List Strike) → AllByRecursion (IsOfScript script count turn) run → Came script turn hs

@@ -1,21 +1,19 @@
 -- The strikes of a turn, one after the other.
-use Rattle.std.proofs.Common.{◌≡◌, ℕ, zero, suc, ◌+◌, ◌<◌, ◌≤◌, Bool, true, false, cond, nat_eq, List, [], ◌∷◌, ◌++◌, length, Option, Some, None, refl, sym, ap, ◌∙◌, subst, append_assoc, arith}
+use Rattle.std.proofs.Common.{◌≡◌, ℕ, zero, suc, ◌+◌, ◌<◌, ◌≤◌, Bool, cond, List, [], ◌∷◌, ◌++◌, length, Option, Some, None, refl, sym, ap, ◌∙◌, subst, append_assoc, arith}
 use Rattle.std.specs.Prelude.{fold, slice_get, All}
 use Rattle.std.specs.List.{AllByRecursion}
 use Rattle.std.proofs.lemmas.Bool.{eq-eqb}
 use Rattle.std.proofs.lemmas.List.Elements.{All-cons, All-nil, All-head, All-tail}
 use Rattle.std.proofs.lemmas.List.Sums.{fold_push}
-use Rattle.coded_words.specs.Words.{Words, IsToCome}
+use Rattle.coded_words.specs.Words.{Words}
 use Rattle.flip_ledger.proofs.PlanLemmas.{given, planned_next}
 use Rattle.flip_ledger.specs.Plan.{IsPlanned, GivesDue, due_at, strikes_of}
 use Rattle.flip_ledger.specs.declared.plan.Owner.TheVariants.{Memory}
 use Rattle.flip_ledger.specs.declared.plan.Strike.{Strike}
-use Rattle.flip_ledger.specs.declared.plan.Target.{Target}
-use Rattle.flip_ledger.specs.declared.plan.Target.TheVariants as targets
 use Rattle.lf_model.proofs.EachLemmas.{each_second}
 use Rattle.lf_model.specs.Flips.{Moment}
 use Rattle.lf_model.specs.declared.flip.Flip.{Flip}
-use Rattle.bus_memory.specs.Strikes.{with_strike, AimsInArray, MayStrike, IsAlong, Came, AimsAt}
+use Rattle.bus_memory.specs.Strikes.{with_strike, MayStrike, IsAlong, Came, AimsAt}
 use Rattle.bus_memory.proofs.BeginLemmas.{due, length_strikes, IsOfScript, due_of_script, Ascends, due_ascends, next_to_come}
 use Rattle.bus_memory.proofs.KeptLemmas.{due_is}
 

@@ -1,12 +1,11 @@
 -- The array follows the words that the script strikes, as words change.
-use Rattle.std.proofs.Common.{◌≡◌, ◌≢◌, ℕ, ◌<◌, ◌≤◌, ◌%◌, Bool, true, false, ◌||◌, nat_eq, List, [], ◌∷◌, length, map, refl, sym, ap, ap₂, ◌∙◌, subst, inl, inr, arith}
+use Rattle.std.proofs.Common.{◌≡◌, ◌≢◌, ℕ, ◌<◌, ◌%◌, Bool, false, ◌||◌, nat_eq, List, [], ◌∷◌, length, map, refl, sym, ap, ap₂, ◌∙◌, subst, inl, inr, arith}
 use Rattle.std.specs.List.{AllByRecursion, list_any}
-use Rattle.std.proofs.lemmas.Bool.{cases_eq, false≢true}
+use Rattle.std.proofs.lemmas.Bool.{cases_eq}
 use Rattle.std.proofs.lemmas.List.{get_or-set_same, get_or-set_other, length-set}
 use Rattle.lf_model.specs.Bus.Words.{Word, is_at}
 use Rattle.lf_model.specs.Caches.Slot.{history_at, befalls}
 use Rattle.lf_model.specs.Flips.{Moment}
-use Rattle.lf_model.specs.Start.{ram_first}
 use Rattle.bus_memory.specs.Followed.{address_of, IsUnstruck, IsShown, Follows}
 use Rattle.bus_memory.proofs.PlaceLemmas.{place_back, address_back}
 use Rattle.ram_words.specs.Ram.{place_of}

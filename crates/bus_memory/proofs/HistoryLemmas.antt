@@ -1,8 +1,8 @@
 -- The definitions' memory with one more transfer.
-use Rattle.std.proofs.Common.{◌≡◌, ℕ, zero, suc, ◌+◌, ◌<◌, ◌≤◌, Bool, true, false, cond, List, [], ◌∷◌, ◌++◌, length, map, None, refl, sym, ap, ap₂, ◌∙◌, add-zero, arith}
+use Rattle.std.proofs.Common.{◌≡◌, ℕ, suc, ◌+◌, true, false, List, [], ◌∷◌, ◌++◌, length, map, None, refl, sym, ap, ◌∙◌, add-zero, arith}
 use Rattle.std.specs.Prelude.{fold}
 use Rattle.std.proofs.lemmas.List.Sums.{fold_push}
-use Rattle.lf_model.specs.Bus.Words.{Word, words_struck, words_begun, words_after}
+use Rattle.lf_model.specs.Bus.Words.{Word, words_begun, words_after}
 use Rattle.lf_model.specs.Records.BusMemory.{Memory, memory_start, with_answer, with_names, memory_by, memory_turn, memory_after}
 use Rattle.lf_model.specs.declared.bus.Transfer.{Transfer}
 use Rattle.lf_model.specs.declared.flip.Flip.{Flip}

@@ -1,5 +1,5 @@
 -- What holds of memory over the transfers goes on to hold as a turn's transfer is made.
-use Rattle.std.proofs.Common.{◌≡◌, ◌≢◌, ℕ, ◌+◌, ◌-◌, ◌*◌, ◌/◌, ◌%◌, ◌^◌, ◌<◌, ◌≤◌, Bool, true, false, ◌||◌, cond, nat_eq, nat_lt, nat_le, zero, suc, List, [], ◌∷◌, ◌++◌, length, map, slice_index, slice_set, Option, Some, None, Result, Ok, Err, IsTrue, Vec, Global, vec_len, vec_capacity, refl, sym, ap, ap₂, ◌∙◌, subst, ◌&&◌, inl, inr, arith}
+use Rattle.std.proofs.Common.{◌≡◌, ◌≢◌, ℕ, ◌+◌, ◌*◌, ◌/◌, ◌%◌, ◌^◌, ◌<◌, ◌≤◌, Bool, true, false, ◌||◌, cond, nat_eq, nat_lt, zero, suc, List, [], ◌∷◌, ◌++◌, length, map, slice_index, slice_set, Option, Some, None, Result, Ok, Err, IsTrue, Vec, Global, vec_len, vec_capacity, refl, sym, ap, ap₂, ◌∙◌, subst, ◌&&◌, inl, inr, arith}
 use Rattle.std.specs.List.{AllByRecursion}
 use Rattle.std.proofs.lemmas.Bool.{lt-ltb, ltb-true, eq-eqb, ne_eqb, cases_eq, false≢true}
 use Rattle.std.proofs.lemmas.Bool.Decides.{nat_tests}
@@ -13,8 +13,7 @@ use Rattle.lf_model.specs.Bus.Words.{Word, word_of, words_of_line, write_of, wit
 use Rattle.lf_model.specs.Caches.Slot.{history_at, befalls}
 use Rattle.std.specs.Prelude.{filter, fold}
 use Rattle.lf_model.specs.Flips.{How, Moment, Standing, places_below, is_turned, turned, turned_bits, word_bits, word_budget, is_bad_word, is_fixed_word, syndrome}
-use Rattle.lf_model.specs.Flips.How.{Whole, ByPartStore, ByAtomic, ByFix}
-use Rattle.lf_model.specs.Flips.Moment.{Written}
+use Rattle.lf_model.specs.Flips.How.{Whole, ByPartStore}
 use Rattle.lf_model.specs.Records.BusMemory.{words_asked, with_answer}
 use Rattle.lf_model.specs.Start.{ram_first, is_in_ram}
 use Rattle.lf_model.specs.declared.bus.Bad.{Bad}
@@ -23,8 +22,8 @@ use Rattle.lf_model.specs.declared.bus.Transfer.{Transfer}
 use Rattle.lf_model.specs.declared.bus.TurnKind.{TurnKind}
 use Rattle.lf_model.specs.declared.bus.TurnKind.TheVariants.{Fetch, Load, Store, Atomic, Snoop, Look, Fix}
 use Rattle.bus_memory.specs.Inside.{seen, IsBusMemory}
-use Rattle.bus_memory.specs.Kept.{turns_struck, IsKept}
-use Rattle.bus_memory.specs.MemoryState.{MemoryState, words_at, met, read_answer, store_answer, line_shown, word_shown, value_at, value_shown, fix_answer, is_bad_at, syndrome_at, made, merged_in, reads_line}
+use Rattle.bus_memory.specs.Kept.{IsKept}
+use Rattle.bus_memory.specs.MemoryState.{MemoryState, words_at, met, read_answer, store_answer, line_shown, word_shown, value_shown, fix_answer, is_bad_at, syndrome_at, made, merged_in, reads_line}
 use Rattle.bus_memory.specs.declared.memory.BusMemory.TheInside.{Inside}
 use Rattle.bus_memory.proofs.AskedLemmas.{joined, line_words, map_agree, line_answered, word_answered, none_answered}
 use Rattle.lf_model.proofs.EachLemmas.{each_weaker}
@@ -37,7 +36,7 @@ use Rattle.std.proofs.lemmas.List.FromFn.{length-map-range_with_len}
 use Rattle.lf_model.specs.Start.{word_at as word_at_image}
 use Rattle.bus_memory.proofs.PlaceLemmas.{place_of-word}
 use Rattle.bus_memory.proofs.ReadLemmas.{IsWordAt, standing_same, syndrome_same, bad_same, fixed_same}
-use Rattle.bus_memory.proofs.WriteLemmas.{Writes, writes_nothing, writes_word, writes_double, written_whole, touches_own, touches_no_other}
+use Rattle.bus_memory.proofs.WriteLemmas.{Writes, writes_word, written_whole, touches_own, touches_no_other}
 use Rattle.ram_words.specs.Parts.{is_part, merged}
 use Rattle.ram_words.specs.Ram.{place_of}
 use Rattle.ram_words.specs.declared.answer.Fixed.{Fixed}
@@ -289,7 +288,7 @@ merged_is old is kind how addr len value above at way =
     (place_of-word addr above)
   where
     by : (b : Bool) → record (seen old) { values = (written_in (cond b None (Some how)) (word_of addr) (merged (slice_index old.memory.values (place_of (word_of addr))) addr len value) old.memory).values }
-      ≡ cond b (seen old) (record (seen old) { values = slice_set old.memory.values (place_of (word_of addr)) (merged (slice_index old.memory.values (place_of (word_of addr))) addr len value) })
+        ≡ cond b (seen old) (record (seen old) { values = slice_set old.memory.values (place_of (word_of addr)) (merged (slice_index old.memory.values (place_of (word_of addr))) addr len value) })
     by true = refl
     by false = refl
 
@@ -326,7 +325,7 @@ unfolding answer_of_fix
 fix_syndrome m addr few = by (bad_in m addr) (is_fixed_word (history_at (place_of addr) m.histories)) refl refl
   where
     by : (b f : Bool) → bad_in m addr ≡ b → is_fixed_word (history_at (place_of addr) m.histories) ≡ f
-      → syndrome_of_fix (cond b (fixes.Bad (syndrome_in m addr)) (cond f (fixes.Corrected (slice_index (turned_bits (history_at (place_of addr) m.histories)) 0) (syndrome_in m addr)) fixes.Clean)) ≡ syndrome_in m addr
+        → syndrome_of_fix (cond b (fixes.Bad (syndrome_in m addr)) (cond f (fixes.Corrected (slice_index (turned_bits (history_at (place_of addr) m.histories)) 0) (syndrome_in m addr)) fixes.Clean)) ≡ syndrome_in m addr
     by true f bad fixed = refl
     by false true bad fixed = refl
     by false false bad fixed = sym (clean_syndrome (turned_bits (history_at (place_of addr) m.histories)) few bad fixed)

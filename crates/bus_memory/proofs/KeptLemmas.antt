@@ -1,8 +1,8 @@
 -- Array, plan and transfers stand together, at the start, as a turn begins and as its transfer is made.
-use Rattle.std.proofs.Common.{◌≡◌, ◌≢◌, ℕ, zero, suc, ◌+◌, ◌*◌, ◌<◌, ◌≤◌, ◌%◌, Bool, true, false, ◌||◌, cond, nat_eq, List, [], ◌∷◌, ◌++◌, length, map, take, Option, Some, None, refl, sym, ap, ap₂, ◌∙◌, subst, inl, inr, arith}
+use Rattle.std.proofs.Common.{◌≡◌, ℕ, zero, suc, ◌+◌, ◌<◌, ◌≤◌, ◌%◌, Bool, true, false, ◌||◌, cond, List, [], ◌∷◌, ◌++◌, length, None, refl, sym, ap, ap₂, ◌∙◌, inl, inr, arith}
 use Rattle.std.specs.Prelude.{fold, replicate}
 use Rattle.std.specs.List.{AllByRecursion, list_any}
-use Rattle.std.proofs.lemmas.Bool.{cases_eq, cases_Bool, false≢true, eq-eqb}
+use Rattle.std.proofs.lemmas.Bool.{cases_eq, false≢true, eq-eqb}
 use Rattle.std.proofs.lemmas.List.{length-append, take_all, take-append-le}
 use Rattle.std.proofs.lemmas.List.Folds.{list_any-append}
 use Rattle.coded_words.specs.Past.{past_at}
@@ -11,20 +11,20 @@ use Rattle.flip_ledger.proofs.PlanLemmas.{strikes_numbered}
 use Rattle.flip_ledger.specs.Plan.{IsPlanned, due_at, strikes_of}
 use Rattle.flip_ledger.specs.declared.plan.Owner.TheVariants.{Memory}
 use Rattle.flip_ledger.specs.declared.plan.Strike.{Strike}
-use Rattle.lf_model.specs.Bus.Words.{Word, is_at, with_word, with_struck, words_struck, words_begun, words_after}
+use Rattle.lf_model.specs.Bus.Words.{Word, is_at, with_word, with_struck, words_begun, words_after}
 use Rattle.lf_model.specs.Caches.Slot.{history_at}
 use Rattle.lf_model.specs.Flips.{Moment}
-use Rattle.lf_model.specs.Records.BusMemory.{with_answer, memory_after}
+use Rattle.lf_model.specs.Records.BusMemory.{with_answer}
 use Rattle.lf_model.specs.Start.{ram_first}
 use Rattle.lf_model.specs.Strikes.{numbered_flips}
 use Rattle.lf_model.specs.declared.bus.Transfer.{Transfer}
 use Rattle.lf_model.specs.declared.flip.Flip.{Flip}
 use Rattle.lf_model.specs.declared.flip.Flip.TheVariants.{Mem, Reg, Tag, Line}
-use Rattle.bus_memory.specs.Followed.{address_of, IsUnstruck, IsShown, Follows}
+use Rattle.bus_memory.specs.Followed.{IsShown, Follows}
 use Rattle.bus_memory.specs.Kept.{turns_struck, IsKept}
 use Rattle.bus_memory.specs.MemoryState.{words_between, words_at}
-use Rattle.bus_memory.specs.Strikes.{with_strike, Came, AimsAt, IsCovered}
-use Rattle.bus_memory.proofs.BeginLemmas.{covered_map, covered_begun, strike_flip, due, begun_follows, length_strikes, due_of_script, came_next, came_same}
+use Rattle.bus_memory.specs.Strikes.{with_strike, AimsAt, IsCovered}
+use Rattle.bus_memory.proofs.BeginLemmas.{covered_map, covered_begun, due, begun_follows, length_strikes, due_of_script, came_next, came_same}
 use Rattle.bus_memory.proofs.HistoryLemmas.{words_push, answers_push, words_between_turns, words_in_turn}
 use Rattle.bus_memory.proofs.WriteLemmas.{word_after, Writes}
 use Rattle.ram_words.specs.Ram.{place_of}

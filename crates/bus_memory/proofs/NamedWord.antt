@@ -1,10 +1,9 @@
 -- A word over the transfers, with one name more: the name stands in its history where the turn ended, and nothing else is different.
-use Rattle.std.proofs.Common.{◌≡◌, ◌≢◌, ℕ, zero, suc, ◌+◌, ◌<◌, ◌≤◌, Bool, true, false, ◌||◌, ◌&&◌, cond, nat_eq, nat_lt, List, [], ◌∷◌, ◌++◌, length, map, take, drop, Option, Some, None, refl, sym, ap, ap₂, ◌∙◌, subst, arith}
-use Rattle.std.specs.List.{list_any}
+use Rattle.std.proofs.Common.{◌≡◌, ◌≢◌, ℕ, suc, ◌+◌, ◌<◌, ◌≤◌, Bool, true, false, ◌||◌, ◌&&◌, cond, nat_eq, nat_lt, List, [], ◌∷◌, ◌++◌, length, Option, Some, None, refl, sym, ap, ap₂, ◌∙◌, arith}
 use Rattle.std.proofs.lemmas.Bool.{eq-eqb, ne_eqb}
 use Rattle.std.proofs.lemmas.List.Folds.{list_any-append}
 use Rattle.coded_words.proofs.PastLemmas.{behind_is}
-use Rattle.coded_words.specs.Past.{named_behind, GoesOn}
+use Rattle.coded_words.specs.Past.{named_behind}
 use Rattle.lf_model.specs.Bus.Words.{Word, struck_word, touches_word, write_of, with_write, write_by}
 use Rattle.lf_model.specs.Course.Syndromes.{has_address}
 use Rattle.lf_model.specs.Flips.{How, Moment, Standing, standing, struck, turned, word_bits, word_budget, is_bad_word, is_fixed_word}

@@ -1,5 +1,5 @@
 -- Addresses of words of RAM, and their numbers.
-use Rattle.std.proofs.Common.{◌≡◌, ℕ, ◌+◌, ◌-◌, ◌*◌, ◌/◌, ◌%◌, ◌<◌, ◌≤◌, arith}
+use Rattle.std.proofs.Common.{◌≡◌, ℕ, ◌%◌, ◌≤◌, arith}
 use Rattle.lf_model.specs.Bus.Words.{word_of}
 use Rattle.lf_model.specs.Start.{ram_first}
 use Rattle.bus_memory.specs.Followed.{address_of}

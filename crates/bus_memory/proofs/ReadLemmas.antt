@@ -1,9 +1,9 @@
 -- What a word of the array reads as is what the definitions' word does: the flips that stand in both are the same.
-use Rattle.std.proofs.Common.{◌≡◌, ℕ, ◌<◌, ◌≤◌, ◌%◌, ◌==◌, Bool, true, false, ◌||◌, nat_eq, List, [], ◌∷◌, length, Option, Some, None, cond, refl, sym, ap, ◌∙◌, inl, inr, arith}
+use Rattle.std.proofs.Common.{◌≡◌, ℕ, ◌<◌, ◌≤◌, ◌%◌, Bool, true, false, ◌||◌, nat_eq, List, [], ◌∷◌, length, Some, cond, refl, sym, ap, ◌∙◌, inl, inr}
 use Rattle.std.specs.Prelude.{find}
 use Rattle.std.specs.Option.{option_map_or}
 use Rattle.std.specs.List.{AllByRecursion, list_any}
-use Rattle.std.proofs.lemmas.Bool.{cases_Bool, cases_eq, or_parts, false≢true, eq-eqb, ne_eqb, eqb-true}
+use Rattle.std.proofs.lemmas.Bool.{cases_Bool, or_parts, false≢true, eq-eqb, eqb-true}
 use Rattle.flip_ledger.specs.Follows.{has_struck}
 use Rattle.lf_model.specs.Bus.Words.{Word, is_at, history_of, word_history}
 use Rattle.lf_model.specs.Caches.Slot.{history_at}
@@ -11,7 +11,7 @@ use Rattle.lf_model.specs.Flips.{Moment, Standing, standing, turned, word_bits, 
 use Rattle.lf_model.specs.Flips.Moment.{Struck, Written, Found, Named}
 use Rattle.lf_model.specs.Start.{ram_first}
 use Rattle.lf_num.specs.Columns.{columns_sum}
-use Rattle.bus_memory.specs.Followed.{address_of, IsUnstruck, IsShown, Follows}
+use Rattle.bus_memory.specs.Followed.{IsUnstruck, IsShown, Follows}
 use Rattle.bus_memory.proofs.PlaceLemmas.{address_back}
 use Rattle.ram_words.specs.Ram.{place_of}
 

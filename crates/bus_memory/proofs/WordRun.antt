@@ -1,9 +1,9 @@
 -- The words that the script strikes, each by itself: what the transfers make of one word does not depend on the others.
-use Rattle.std.proofs.Common.{◌≡◌, ℕ, zero, suc, ◌+◌, ◌<◌, ◌≤◌, Bool, true, false, ◌||◌, ◌&&◌, cond, nat_eq, List, [], ◌∷◌, ◌++◌, length, map, take, Option, Some, None, refl, sym, ap, ap₂, ◌∙◌, arith}
+use Rattle.std.proofs.Common.{◌≡◌, ℕ, ◌+◌, Bool, true, false, cond, nat_eq, List, [], ◌∷◌, map, None, refl, sym, ap, ◌∙◌}
 use Rattle.std.specs.Prelude.{fold}
 use Rattle.std.proofs.lemmas.Simd.{map-map}
 use Rattle.lf_model.specs.Bus.Words.{Word, words_struck, struck_word, strike_word, words_begun, words_after}
-use Rattle.lf_model.specs.Records.BusMemory.{Memory, memory_start, names_word, with_names, memory_turn, memory_after}
+use Rattle.lf_model.specs.Records.BusMemory.{Memory, memory_start, with_names, memory_turn, memory_after}
 use Rattle.lf_model.specs.Strikes.{numbered_flips}
 use Rattle.lf_model.specs.declared.bus.Transfer.{Transfer}
 use Rattle.lf_model.specs.declared.flip.Flip.{Flip}

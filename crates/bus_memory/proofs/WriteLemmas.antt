@@ -1,11 +1,10 @@
 -- The words after a transfer, and the array after its writes.
-use Rattle.std.proofs.Common.{◌≡◌, ◌≢◌, ℕ, ◌+◌, ◌*◌, ◌/◌, ◌%◌, ◌<◌, ◌≤◌, ◌==◌, Bool, true, false, not, ◌&&◌, ◌||◌, cond, nat_eq, nat_lt, List, [], ◌∷◌, length, map, Option, Some, None, refl, sym, ap, ap₂, ◌∙◌, subst, inl, inr, arith}
-use Rattle.std.specs.List.{list_any}
+use Rattle.std.proofs.Common.{◌≡◌, ◌≢◌, ℕ, ◌+◌, ◌%◌, ◌<◌, ◌≤◌, Bool, true, false, not, ◌&&◌, cond, nat_lt, List, [], ◌∷◌, length, Option, Some, None, refl, sym, ap, ap₂, ◌∙◌, subst, inl, inr, arith}
 use Rattle.std.proofs.lemmas.Bool.{cases_eq, ne_eqb}
 use Rattle.std.proofs.lemmas.Bool.Decides.{nat_tests}
-use Rattle.std.proofs.lemmas.List.{set-get_or, get_or-set_same, get_or-set_other, length-set}
+use Rattle.std.proofs.lemmas.List.{get_or-set_same, get_or-set_other, length-set}
 use Rattle.flip_ledger.specs.Follows.{has_struck}
-use Rattle.lf_model.specs.Bus.Words.{Word, is_at, word_of, touches_word, write_of, with_write, write_by, words_after}
+use Rattle.lf_model.specs.Bus.Words.{Word, word_of, touches_word, write_of, with_write, write_by, words_after}
 use Rattle.lf_model.specs.Caches.Slot.{history_at, befalls}
 use Rattle.lf_model.specs.Course.Syndromes.{has_address}
 use Rattle.lf_model.specs.Flips.{How, Moment}
@@ -14,10 +13,10 @@ use Rattle.lf_model.specs.Flips.Moment.{Written}
 use Rattle.lf_model.specs.Start.{ram_first}
 use Rattle.lf_model.specs.declared.bus.Transfer.{Transfer}
 use Rattle.lf_model.specs.declared.bus.TurnKind.{TurnKind}
-use Rattle.lf_model.specs.declared.bus.TurnKind.TheVariants.{Fetch, Load, Store, Atomic, Snoop, Look, Fix}
+use Rattle.lf_model.specs.declared.bus.TurnKind.TheVariants.{Store}
 use Rattle.bus_memory.specs.Followed.{address_of, IsUnstruck, IsShown, Follows}
 use Rattle.bus_memory.proofs.FollowLemmas.{follows_map, follows_one}
-use Rattle.bus_memory.proofs.PlaceLemmas.{place_back, address_back, address_of-place}
+use Rattle.bus_memory.proofs.PlaceLemmas.{address_back, address_of-place}
 use Rattle.ram_words.specs.Ram.{place_of}
 
 -- a write strikes nothing
@@ -45,11 +44,11 @@ pub follows_written : (t : Transfer) (words : List Word) (hs : List (List Moment
 follows_written t words hs above within here there follows =
     follows_one (word_after t) (λ h. with_write (write_of t.len h t.kind) h) (place_of t.addr) words hs within (λ w. refl)
     (λ w same.
-      ap (λ (how : Option How). with_write how w.history)
-      (written_by t w true (has t above) (ap (λ (a : ℕ). touches_word t.addr t.len a t.kind) (same ∙ address_of-place t.addr above) ∙ here)))
+    ap (λ (how : Option How). with_write how w.history)
+    (written_by t w true (has t above) (ap (λ (a : ℕ). touches_word t.addr t.len a t.kind) (same ∙ address_of-place t.addr above) ∙ here)))
     (λ w aligned other.
-      ap (λ (how : Option How). with_write how w.history)
-      (written_by t w false (has t above) (there w.addr aligned (λ e. other (e ∙ sym (address_of-place t.addr above))))))
+    ap (λ (how : Option How). with_write how w.history)
+    (written_by t w false (has t above) (there w.addr aligned (λ e. other (e ∙ sym (address_of-place t.addr above))))))
     (λ none un. unstruck_written (write_of t.len (history_at (place_of t.addr) hs) t.kind) (history_at (place_of t.addr) hs) un)
     follows
 

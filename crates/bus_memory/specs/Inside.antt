@@ -1,5 +1,5 @@
 -- What is kept of memory over the transfers, and what of it its users see.
-use Rattle.std.specs.Prelude.{ℕ, ◌+◌, ◌^◌, ◌<◌, ◌≤◌, length, vec_capacity}
+use Rattle.std.specs.Prelude.{◌^◌, ◌<◌, ◌≤◌, length, vec_capacity}
 use Rattle.bus_memory.specs.Kept.{IsKept}
 use Rattle.bus_memory.specs.MemoryState.{MemoryState}
 use Rattle.bus_memory.specs.declared.memory.BusMemory.TheInside.{Inside}

@@ -1,5 +1,5 @@
 -- Memory over the transfers on the bus, as its users see it.
-use Rattle.std.specs.Prelude.{ℕ, ◌+◌, ◌*◌, ◌/◌, ◌%◌, ◌^◌, ◌==◌, ◌&&◌, nat_lt, not, Bool, true, false, List, [], ◌∷◌, ◌++◌, length, map, slice_index, slice_set, Option, Some, None, Result, Ok, Err, if◌then◌else◌}
+use Rattle.std.specs.Prelude.{ℕ, ◌+◌, ◌*◌, ◌/◌, ◌%◌, ◌^◌, ◌==◌, ◌&&◌, nat_lt, Bool, true, false, List, [], ◌∷◌, ◌++◌, length, map, slice_index, slice_set, Option, Some, None, Result, Ok, Err, if◌then◌else◌}
 use Rattle.lf_model.specs.Bus.Words.{Word, word_history, words_begun, word_of, words_of_line}
 use Rattle.lf_model.specs.Flips.{Moment, is_bad_word, is_fixed_word, turned_bits, syndrome}
 use Rattle.lf_model.specs.Records.BusMemory.{memory_after, with_answer}

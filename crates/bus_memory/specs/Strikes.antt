@@ -1,6 +1,6 @@
 -- Which flips of the script struck words of the array.
 use Rattle.std.specs.Prelude.{◌≡◌, ℕ, ◌%◌, ◌<◌, ◌≤◌, ◌++◌, true, List, length, fold, Option, Some, None, All, slice_get}
-use Rattle.std.specs.List.{AllByRecursion, list_any}
+use Rattle.std.specs.List.{list_any}
 use Rattle.coded_words.specs.Words.{Words, IsToCome}
 use Rattle.flip_ledger.specs.Follows.{has_struck}
 use Rattle.flip_ledger.specs.declared.plan.Strike.{Strike}

@@ -10,7 +10,9 @@ ghost use Rattle.bus_memory.specs.MemoryState.{ram_of, line_shown, value_shown, 
 ghost use Rattle.bus_memory.specs.Strikes.{AimsAt};
 
 use crate::strike::strike_due;
-use crate::transfer::{end_turn, syndrome_met, syndrome_of, syndrome_read, with_line, with_none, with_word};
+use crate::transfer::{
+    end_turn, syndrome_met, syndrome_of, syndrome_read, with_line, with_none, with_word,
+};
 use flip_ledger::{FlipPlan, Owner};
 use ft_memory::Memory;
 use lf_model::bus::{Bad, Line, Transfer};

@@ -1,15 +1,8 @@
-use Rattle.std.proofs.Common.{◌≡◌, ℕ, ◌^◌, ◌*◌, Bool, cond, List, [], ◌∷◌, ◌++◌, length, refl, sym, ap, ap₂, ◌∙◌, subst, arith}
-use Rattle.std.specs.Prelude.{is_ok}
-use Rattle.bus_memory.specs.MemoryState.{MemoryState, line_shown, made, stored, merged_in, store_answer, read_answer}
-use Rattle.lf_model.specs.Bus.Words.{word_of}
-use Rattle.lf_model.specs.declared.bus.Entry.{Entry}
+use Rattle.std.proofs.Common.{[], length, ap, ◌∙◌}
+use Rattle.bus_memory.specs.MemoryState.{line_shown}
 use Rattle.lf_model.specs.declared.bus.Transfer.{Transfer}
-use Rattle.lf_model.specs.declared.bus.TurnKind.TheVariants.{Store, Atomic, Look, Fix}
-use Rattle.lf_model.specs.declared.bus.Why.TheVariants as whys
-use Rattle.ahb_bus.specs.Asks.{IsCoreTurn, HasEntryLeft}
-use Rattle.ahb_bus.specs.BusState.{BusState, memory_of, asked_by, after_turn, is_lost, meets_bad, store_entry, atomic_entry, word_of_answer, stored_by, exchanged_by}
-use Rattle.ahb_bus.specs.Inside.{seen}
-use Rattle.ahb_bus.proofs.InsideLemmas.{memory_is, room_for, bus_made, seen_made, plain_asked, way_asked, len_asked, merged_values, stored_values, store_entered, atomic_entered, store_left, entry_room, shared_stored, is_length_of, atomic_is_length}
+use Rattle.ahb_bus.specs.BusState.{BusState, memory_of, after_turn}
+use Rattle.ahb_bus.proofs.InsideLemmas.{way_asked}
 use Rattle.ahb_bus.proofs.bus.Bus.fill.Goals as goal
 
 pub returns-clause-line : goal.returns-clause-line

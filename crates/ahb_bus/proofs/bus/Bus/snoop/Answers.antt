@@ -1,8 +1,4 @@
-use Rattle.std.proofs.Common.{◌≡◌, ◌^◌, ◌*◌, [], ◌∷◌, refl, sym, ap, ◌∙◌, arith}
-use Rattle.bus_memory.specs.MemoryState.{MemoryState, line_shown, fix_answer, store_answer, read_answer}
-use Rattle.lf_model.specs.declared.bus.Transfer.{Transfer}
-use Rattle.ahb_bus.specs.BusState.{BusState, memory_of, after_turn}
-use Rattle.ahb_bus.proofs.InsideLemmas.{memory_is, room_for, bus_read, seen_read, begun_in, left_in}
+use Rattle.ahb_bus.proofs.InsideLemmas.{room_for, bus_read, left_in}
 use Rattle.ahb_bus.proofs.bus.Bus.snoop.Goals as goal
 
 pub snoop-requires-clause-room : goal.snoop-requires-clause-room

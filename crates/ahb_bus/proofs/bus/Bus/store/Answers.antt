@@ -1,15 +1,13 @@
-use Rattle.std.proofs.Common.{◌≡◌, ℕ, ◌^◌, ◌*◌, Bool, cond, List, [], ◌∷◌, ◌++◌, length, refl, sym, ap, ap₂, ◌∙◌, subst, arith}
+use Rattle.std.proofs.Common.{◌≡◌, ℕ, Bool, cond, List, [], ◌∷◌, ◌++◌, refl, sym, ap, ap₂, ◌∙◌, subst}
 use Rattle.std.specs.Prelude.{is_ok}
-use Rattle.bus_memory.specs.MemoryState.{MemoryState, line_shown, made, stored, merged_in, store_answer, read_answer}
-use Rattle.lf_model.specs.Bus.Words.{word_of}
+use Rattle.bus_memory.specs.MemoryState.{MemoryState, made, stored, store_answer}
 use Rattle.lf_model.specs.declared.bus.Entry.{Entry}
 use Rattle.lf_model.specs.declared.bus.Transfer.{Transfer}
-use Rattle.lf_model.specs.declared.bus.TurnKind.TheVariants.{Store, Atomic, Look, Fix}
-use Rattle.lf_model.specs.declared.bus.Why.TheVariants as whys
+use Rattle.lf_model.specs.declared.bus.TurnKind.TheVariants.{Store}
 use Rattle.ahb_bus.specs.Asks.{IsCoreTurn, HasEntryLeft}
-use Rattle.ahb_bus.specs.BusState.{BusState, memory_of, asked_by, after_turn, is_lost, meets_bad, store_entry, atomic_entry, word_of_answer, stored_by, exchanged_by}
+use Rattle.ahb_bus.specs.BusState.{asked_by, after_turn, store_entry, stored_by}
 use Rattle.ahb_bus.specs.Inside.{seen}
-use Rattle.ahb_bus.proofs.InsideLemmas.{lost_in, memory_is, room_for, bus_made, seen_made, plain_asked, way_asked, len_asked, merged_values, stored_values, store_entered, atomic_entered, store_left, entry_room, shared_stored, is_length_of, atomic_is_length}
+use Rattle.ahb_bus.proofs.InsideLemmas.{lost_in, memory_is, room_for, bus_made, seen_made, len_asked, stored_values, store_entered, store_left, entry_room, shared_stored, is_length_of}
 use Rattle.ahb_bus.proofs.bus.Bus.store.Goals as goal
 
 pub store-answer-requires-clause-room : goal.store-answer-requires-clause-room

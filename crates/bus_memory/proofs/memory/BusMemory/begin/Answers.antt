@@ -1,5 +1,4 @@
-use Rattle.std.proofs.Common.{◌≡◌, ◌+◌, ◌<◌, false, Bool, length, ap, ◌∙◌, subst, arith}
-use Rattle.std.specs.Prelude.{vec_capacity}
+use Rattle.std.proofs.Common.{◌≡◌, false, Bool, length, ap, ◌∙◌, subst, arith}
 use Rattle.bus_memory.specs.Kept.{IsKept}
 use Rattle.bus_memory.specs.MemoryState.{MemoryState}
 use Rattle.bus_memory.proofs.KeptLemmas.{kept_begun}

@@ -1,16 +1,13 @@
-use Rattle.std.proofs.Common.{◌≡◌, ◌^◌, ◌<◌, refl, sym, ap, ◌∙◌, arith}
+use Rattle.std.proofs.Common.{refl, ap, ◌∙◌}
 use Rattle.coded_words.specs.Words.{Words, ended}
-use Rattle.bus_memory.specs.Answers.{syndrome_of_answer, syndrome_of_read, syndrome_of_fix}
-use Rattle.bus_memory.specs.MemoryState.{MemoryState, value_shown, read_answer, store_answer, fix_answer, merged_in, made}
-use Rattle.bus_memory.proofs.AskedLemmas.{part_asked, whole_asked, atomic_asked, fix_asked, snoop_asked}
-use Rattle.bus_memory.proofs.InsideLemmas.{begun_in, room_in, in_array, word_there, word_at, room_for, past_fits, closed, closed_seen, word_made, none_made, written_one, writes_one, writes_store_word, writes_fix, merged_is, part_way, part_syndrome, read_syndrome, fix_syndrome, part_is, read_is, fix_is, peek_is, part_short, in_word, ram_above}
-use Rattle.bus_memory.proofs.WriteLemmas.{writes_nothing, writes_double}
-use Rattle.lf_model.specs.Bus.Words.{word_of, write_of}
-use Rattle.lf_model.specs.declared.bus.TurnKind.TheVariants.{Store, Atomic, Snoop, Fix}
-use Rattle.ram_words.specs.Ram.{place_of}
+use Rattle.bus_memory.specs.Answers.{syndrome_of_read}
+use Rattle.bus_memory.specs.MemoryState.{MemoryState, read_answer, merged_in, made}
+use Rattle.bus_memory.proofs.AskedLemmas.{atomic_asked}
+use Rattle.bus_memory.proofs.InsideLemmas.{begun_in, room_in, in_array, word_there, past_fits, closed, closed_seen, word_made, written_one, writes_one, merged_is, read_syndrome, read_is, ram_above}
+use Rattle.lf_model.specs.Bus.Words.{word_of}
+use Rattle.lf_model.specs.declared.bus.TurnKind.TheVariants.{Atomic}
 use Rattle.ram_words.specs.Parts.{merged}
-use Rattle.lf_model.specs.Caches.Slot.{history_at}
-use Rattle.lf_model.specs.Flips.How.{ByPartStore, ByAtomic}
+use Rattle.lf_model.specs.Flips.How.{ByAtomic}
 use Rattle.bus_memory.proofs.InsideLemmas.{past_written, place_same, atomic_length, atomic_in_word}
 use Rattle.bus_memory.proofs.memory.BusMemory.exchange.Goals as goal
 

@@ -1,4 +1,4 @@
-use Rattle.std.proofs.Common.{◌≡◌, ◌^◌, ◌<◌, ◌≤◌, length, arith}
+use Rattle.std.proofs.Common.{arith}
 use Rattle.flip_ledger.specs.Plan.{IsPlanned}
 use Rattle.flip_ledger.specs.declared.plan.Owner.TheVariants.{Memory}
 use Rattle.bus_memory.proofs.InsideLemmas.{kept_new}

@@ -1,4 +1,4 @@
-use Rattle.std.proofs.Common.{◌≡◌, refl, ap, ◌∙◌}
+use Rattle.std.proofs.Common.{refl, ap, ◌∙◌}
 use Rattle.bus_memory.specs.MemoryState.{MemoryState, line_shown, made}
 use Rattle.bus_memory.proofs.InsideLemmas.{begun_in, room_in, in_array, line_all, room_for, past_fits, closed, closed_seen, line_made, line_is, line_unwritten}
 use Rattle.bus_memory.proofs.WriteLemmas.{writes_nothing}
