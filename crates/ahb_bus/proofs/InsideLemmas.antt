@@ -113,9 +113,11 @@ pub stored_values : (addr len value : ℕ) (m : MemoryState) → stored addr len
 stored_values addr len value m = by (nat_lt len 4) (nat_eq len 4)
   where
     by : (short word : Bool) → cond short (merged_in addr len value m) (cond word (record m { values = slice_set m.values (place_of addr) value })
-      (record m { values = slice_set (slice_set m.values (place_of addr) (value / 2 ^ 32)) (place_of (addr + 4)) (value % 2 ^ 32) }))
-      ≡ record m { values = (cond short (merged_in addr len value m) (cond word (record m { values = slice_set m.values (place_of addr) value })
-      (record m { values = slice_set (slice_set m.values (place_of addr) (value / 2 ^ 32)) (place_of (addr + 4)) (value % 2 ^ 32) }))).values }
+        (record m { values = slice_set (slice_set m.values (place_of addr) (value / 2 ^ 32)) (place_of (addr + 4)) (value % 2 ^ 32) }))
+        ≡ record m {
+          values = (cond short (merged_in addr len value m) (cond word (record m { values = slice_set m.values (place_of addr) value })
+              (record m { values = slice_set (slice_set m.values (place_of addr) (value / 2 ^ 32)) (place_of (addr + 4)) (value % 2 ^ 32) }))).values;
+        }
     by true word = merged_values addr len value m
     by false true = refl
     by false false = refl
@@ -146,8 +148,8 @@ unfolding read_answer
 atomic_entered m w p addr = by (is_bad_at m addr)
   where
     by : (b : Bool) → cond (is_ok {T = Got} {E = Bad} (cond b (Err (record { addr = addr; syn = syndrome_at m addr })) (Ok (record { value = value_at m addr; syn = syndrome_at m addr }))))
-      (atomic_entry w p (word_of_answer (cond b (Err (record { addr = addr; syn = syndrome_at m addr })) (Ok (record { value = value_at m addr; syn = syndrome_at m addr })))) ∷ []) []
-      ≡ cond b [] (atomic_entry w p (value_at m addr) ∷ [])
+        (atomic_entry w p (word_of_answer (cond b (Err (record { addr = addr; syn = syndrome_at m addr })) (Ok (record { value = value_at m addr; syn = syndrome_at m addr })))) ∷ []) []
+        ≡ cond b [] (atomic_entry w p (value_at m addr) ∷ [])
     by true = refl
     by false = refl
 

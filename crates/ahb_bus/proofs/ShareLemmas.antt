@@ -85,15 +85,15 @@ module _ {X : Type 0} (key : X → ℕ) where
       let rest = counted n special xs le all.1 in
       ⊎_elim
       (λ below.
-        let more : total (λ c. length (own c (x ∷ xs))) n ≡ total (λ c. length (own c xs)) n + 1 =
-        total_more (λ c. length (own c xs)) (λ c. length (own c (x ∷ xs))) (key x) n below (own_same (key x) x xs refl) (λ c other. own_other c x xs (λ e. other (sym e))) in
-        let same = own_other special x xs (λ e. omega (arith, e, below, le)) in
-        omega (arith, rest, more, same))
+      let more : total (λ c. length (own c (x ∷ xs))) n ≡ total (λ c. length (own c xs)) n + 1 =
+      total_more (λ c. length (own c xs)) (λ c. length (own c (x ∷ xs))) (key x) n below (own_same (key x) x xs refl) (λ c other. own_other c x xs (λ e. other (sym e))) in
+      let same = own_other special x xs (λ e. omega (arith, e, below, le)) in
+      omega (arith, rest, more, same))
       (λ is.
-        let same : total (λ c. length (own c (x ∷ xs))) n ≡ total (λ c. length (own c xs)) n =
-        total_same (λ c. length (own c xs)) (λ c. length (own c (x ∷ xs))) n (λ c lt. own_other c x xs (λ e. omega (arith, e, is, lt, le))) in
-        let more = own_same special x xs is in
-        omega (arith, rest, same, more))
+      let same : total (λ c. length (own c (x ∷ xs))) n ≡ total (λ c. length (own c xs)) n =
+      total_same (λ c. length (own c xs)) (λ c. length (own c (x ∷ xs))) n (λ c lt. own_other c x xs (λ e. omega (arith, e, is, lt, le))) in
+      let more = own_same special x xs is in
+      omega (arith, rest, same, more))
       all.0
 
   own_push : (c : ℕ) (xs : List X) (x : X) → length (own c (xs ++ x ∷ [])) ≡ length (own c xs) + length (own c (x ∷ []))
@@ -127,12 +127,12 @@ module _ (config : Config) (ts : List Transfer) (log : List Entry) (cores : conf
       (each_weaker (IsOfMaster config.cores) (λ u. (u.master < config.cores) ⊎ (u.master ≡ scrubber)) ts (λ u has. a_master config.cores u u.kind has) shared.masters) in
       ⊎_elim
       (λ core.
-        let few = total_below (λ c. length (own_transfers c ts)) (config.steps + 8) t.master config.cores core (left.core_share core) shared.core_share in
-        omega (arith, all, few, shared.scrub_share))
+      let few = total_below (λ c. length (own_transfers c ts)) (config.steps + 8) t.master config.cores core (left.core_share core) shared.core_share in
+      omega (arith, all, few, shared.scrub_share))
       (λ scrub.
-        let few = total_within (λ c. length (own_transfers c ts)) (config.steps + 8) config.cores shared.core_share in
-        let less = left.scrub_share scrub in
-        omega (arith, all, few, less))
+      let few = total_within (λ c. length (own_transfers c ts)) (config.steps + 8) config.cores shared.core_share in
+      let less = left.scrub_share scrub in
+      omega (arith, all, few, less))
       (a_master config.cores t t.kind left.master)
 
   pub shared_made : (t : Transfer) → HasLeft config ts t → AreShared config (ts ++ t ∷ []) log

@@ -10,3 +10,4 @@ pub mod WordRun
 pub mod NamedWord
 pub mod DueLemmas
 pub mod InsideLemmas
+pub mod NamedFollows
