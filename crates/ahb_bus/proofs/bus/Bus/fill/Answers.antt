@@ -1,0 +1,15 @@
+use Rattle.std.proofs.Common.{[], length, ap, ◌∙◌}
+use Rattle.bus_memory.specs.MemoryState.{line_shown}
+use Rattle.lf_model.specs.declared.bus.Transfer.{Transfer}
+use Rattle.ahb_bus.specs.BusState.{BusState, memory_of, after_turn}
+use Rattle.ahb_bus.proofs.InsideLemmas.{way_asked}
+use Rattle.ahb_bus.proofs.bus.Bus.fill.Goals as goal
+
+pub returns-clause-line : goal.returns-clause-line
+returns-clause-line c = c.read_line.ensures.line ∙ ap (λ (t : Transfer). line_shown (memory_of c.args.self.now) t.addr) c.asked.ensures
+
+pub returns-clause-made : goal.returns-clause-made
+returns-clause-made c =
+    c.read_line.ensures.made
+    ∙ ap (λ (t : Transfer). after_turn t [] c.args.self.now.values c.args.self.now)
+    (way_asked c.args.self.now c.args.w c.args.kind c.args.why c.args.line c.turns.result c.asked.ensures (c.turns.ensures ∙ ap (λ (b : BusState). length b.transfers) c.self.view_is) c.args.way)

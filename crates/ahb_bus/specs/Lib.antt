@@ -1,0 +1,3 @@
+pub mod BusState
+pub mod Inside
+pub mod Asks

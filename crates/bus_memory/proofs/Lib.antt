@@ -1,0 +1,13 @@
+pub mod PlaceLemmas
+pub mod FollowLemmas
+pub mod ReadLemmas
+pub mod WriteLemmas
+pub mod BeginLemmas
+pub mod HistoryLemmas
+pub mod KeptLemmas
+pub mod AskedLemmas
+pub mod WordRun
+pub mod NamedWord
+pub mod DueLemmas
+pub mod InsideLemmas
+pub mod NamedFollows

@@ -1,0 +1,26 @@
+use Rattle.bus_memory.proofs.DueLemmas.{along_more, may_strike, all_struck, planned_later, due_end}
+use Rattle.bus_memory.proofs.strike.strike_due.Goals as goal
+
+pub strike-requires : goal.strike-requires
+strike-requires c =
+    let given = rw c.in-Some.is at c.next_due.ensures in
+    may_strike c.args.script.now.value c.args.turn c.args.memory.now c.args.plan.now c.requires.planned c.due.memory c.due.plan c.due.invariant c.in-Some.next c.next_due.new.self given.0 given.1
+    c.requires.came c.requires.aims c.requires.flips
+
+pub due-preserved : goal.due-preserved
+due-preserved c =
+    let given = rw c.in-Some.is at c.next_due.ensures in
+    along_more c.args.script.now.value c.args.turn c.args.memory.now c.args.plan.now c.requires.planned c.due.memory c.due.plan c.due.invariant c.in-Some.next c.next_due.new.self given.0 given.1
+    c.strike.ensures
+
+pub returns-clause-struck : goal.returns-clause-struck
+returns-clause-struck c =
+    all_struck c.args.script.now.value c.args.turn c.args.memory.now c.args.plan.now c.requires.planned c.due.memory c.due.plan c.due.invariant
+    (due_end c.args.turn c.due.plan c.next_due.new.self c.next_due.result c.next_due.ensures c.in_default.not-Some)
+
+pub returns-clause-planned : goal.returns-clause-planned
+returns-clause-planned c =
+    let given = rw c.in_default.is at c.next_due.ensures in
+    rw given.0
+    (planned_later c.args.script.now.value c.args.turn c.args.memory.now c.args.plan.now c.requires.planned c.due.memory c.due.plan c.due.invariant
+    (due_end c.args.turn c.due.plan c.next_due.new.self c.next_due.result c.next_due.ensures c.in_default.not-Some))

@@ -1,0 +1,14 @@
+//! Memory over the transfers on the AHB bus (GRLIB, FTAHBRAM): coded RAM, which the script's flips strike as turns begin, and
+//! which transfers read and write.
+//!
+//! Contracts see the transfers so far, and of each word the number last written. What a word reads as follows from its history:
+//! the flips of the script that struck it, and the transfers that wrote it. Only `BusMemory::new` and `BusMemory::finish` take
+//! memory.
+#![tactic(auto)]
+
+mod memory;
+mod strike;
+mod transfer;
+
+pub use memory::BusMemory;
+pub use ram_words::{Fixed, Got};
