@@ -122,7 +122,7 @@ fn reads_fixes_and_part_stores(rt: HostRuntime) -> Result<(), Fail> {
 }
 
 #[test]
-fn lines_words_and_atomics(rt: HostRuntime) -> Result<(), Fail> {
+fn a_line_and_a_word(rt: HostRuntime) -> Result<(), Fail> {
     let mut memory = struck(&rt, rt.alloc(), (Some(38), None))?;
     let line = memory.read_line(0x4000_0000);
     assert!(rt; line.words == [0, 0x1122_3344, 0, 0, 0, 0, 0, 0]);
@@ -130,12 +130,17 @@ fn lines_words_and_atomics(rt: HostRuntime) -> Result<(), Fail> {
     assert!(rt; line.bad == [false; 8]);
     memory.write_word(0x4000_0004, 0x77);
     assert!(rt; memory.fate(0) == Fate::Overwritten);
+    Ok(())
+}
+
+#[test]
+fn an_atomic_of_a_byte(rt: HostRuntime) -> Result<(), Fail> {
+    let mut memory = struck(&rt, rt.alloc(), (None, None))?;
     let got = memory.exchange(0x4000_0007, 1, 0xff).ok();
-    assert!(rt;
-        got == Some(Got {
-            value: 0x77,
-            syn: 0
-        })
-    );
+    let old = Got {
+        value: 0x1122_3344,
+        syn: 0,
+    };
+    assert!(rt; got == Some(old));
     Ok(())
 }
