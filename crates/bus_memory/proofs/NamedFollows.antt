@@ -114,7 +114,7 @@ module _ (script : List Flip) (named : List Word2) (name : Word2) (turn : ℕ) (
       λ w is was. elim (cases_eq name.addr w.addr) [
         | inl same ↦
             let here : (run_one script (named ++ name ∷ []) 0 (split.front ++ split.at ∷ split.rest) w).history
-                ≡ named_behind (run_one script named 0 (split.front ++ split.at ∷ []) w).history (run_one script named 0 (split.front ++ split.at ∷ split.rest) w).history =
+            ≡ named_behind (run_one script named 0 (split.front ++ split.at ∷ []) w).history (run_one script named 0 (split.front ++ split.at ∷ split.rest) w).history =
             run_named script named name turn value split.front split.at split.rest w split.long same (ap (names_word named turn) (sym same) ∙ none) in
             let now : history_at (place_of name.addr) hs ≡ (f w).history = ap (λ (a : ℕ). history_at (place_of a) hs) (same ∙ sym (addr_run script named 0 ts w)) ∙ is.history in
             let then_ : history_at (place_of name.addr) past ≡ (g w).history = ap (λ (a : ℕ). history_at (place_of a) past) (same ∙ sym (addr_run script named 0 (take (turn + 1) ts) w)) ∙ was.history in
@@ -135,7 +135,7 @@ module _ (script : List Flip) (named : List Word2) (name : Word2) (turn : ℕ) (
             ∙ sym (ap (λ (v : Word). v.history) (run_same script named name ts w (λ u lt. names_same script named name u w.addr (ap (λ (b : Bool). b && is_turn u name.value) (ne_eqb name.addr w.addr other)))))
       ] in
       let stays : (p : ℕ) → p < length hs → IsUnstruck (history_at p hs) → (p < length past → IsUnstruck (history_at p past))
-          → IsUnstruck (history_at p (befalls (named_behind (history_at (place_of name.addr) past)) (place_of name.addr) hs)) =
+      → IsUnstruck (history_at p (befalls (named_behind (history_at (place_of name.addr) past)) (place_of name.addr) hs)) =
       λ p lt un was. elim (cases_eq p (place_of name.addr)) [
         | inl same ↦
             subst IsUnstruck
