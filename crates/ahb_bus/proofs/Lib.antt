@@ -1,2 +1,3 @@
 pub mod ShareLemmas
 pub mod InsideLemmas
+pub mod GrantLemmas

@@ -1,3 +1,4 @@
+pub mod Grant
 pub mod BusState
 pub mod Inside
 pub mod Asks

@@ -4,6 +4,7 @@
 //! see the transfers so far, which are those of the definitions. Only `Bus::new` takes memory.
 #![tactic(auto)]
 
+mod arbiter;
 mod bus;
 mod lines;
 mod record;
@@ -11,6 +12,7 @@ mod single;
 mod stores;
 mod transfer;
 
+pub use arbiter::grant;
 pub use bus::Bus;
 pub use bus_memory::Fixed;
 pub use record::Who;

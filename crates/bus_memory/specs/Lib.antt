@@ -4,4 +4,3 @@ pub mod MemoryState
 pub mod Kept
 pub mod Inside
 pub mod Answers
-pub mod Named

@@ -2,8 +2,7 @@
 //! which transfers read and write.
 //!
 //! Contracts see the transfers so far, and of each word the number last written. What a word reads as follows from its history:
-//! the flips of the script that struck it, and the transfers that wrote it. Only `BusMemory::new` and `BusMemory::finish` take
-//! memory.
+//! the flips of the script that struck it, and the transfers that wrote it. Only `BusMemory::new` takes memory.
 #![tactic(auto)]
 
 mod memory;
