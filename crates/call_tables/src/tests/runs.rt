@@ -223,7 +223,7 @@ fn each_read_fails_in_turn(rt: HostRuntime) -> Result<(), Fail> {
             return Ok(());
         }
         let place = place_of(out.taken());
-        let is_next = last <= place && place <= last + 1;
+        let is_next = last <= place && place - last <= 1;
         expect(&rt, call, status == 3 && place < UNREAD.len() && is_next);
         last = place;
     }
