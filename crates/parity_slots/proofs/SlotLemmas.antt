@@ -11,7 +11,8 @@ use Rattle.parity_slots.specs.SlotState.{SlotState}
 use Rattle.parity_slots.specs.Units.{with_units}
 use Rattle.parity_slots.proofs.UnitLemmas.{with_tag, with_line, over_tag, over_line, over_whole_line}
 use Rattle.parity_units.specs.Events.{no_byte, byte_at, befallen, over, AreUnits}
-use Rattle.parity_units.proofs.ByteLemmas.{byte_reads}
+use Rattle.parity_units.specs.Bytes.{is_bad}
+use Rattle.parity_units.proofs.ByteLemmas.{byte_reads, bad_struck}
 use Rattle.parity_units.specs.declared.byte.ParityByte.{ParityByte}
 use Rattle.parity_units.specs.declared.events.Event.{Event}
 
@@ -92,14 +93,14 @@ any_four p (a ∷ b ∷ c ∷ d ∷ []) len = ap (λ (t : Bool). p a || (p b || 
 any_four p (a ∷ b ∷ c ∷ d ∷ e ∷ hs) len = absurd (omega arith)
 
 pub struck_tag : (s : SlotState) (tag line : List ParityByte) (tag_written : List ℕ) (used : ℕ) → IsSlotOf s tag line tag_written used
-    → has_struck_tag s.slot ≡ ((byte_at tag 0).struck || ((byte_at tag 1).struck || ((byte_at tag 2).struck || (byte_at tag 3).struck)))
+    → has_struck_tag s.slot ≡ (is_bad (byte_at tag 0) || (is_bad (byte_at tag 1) || (is_bad (byte_at tag 2) || is_bad (byte_at tag 3))))
 struck_tag s tag line tag_written used is =
-    let at : (i : ℕ) → i < 4 → is_struck_byte (history_at i s.slot.tag_histories) ≡ (byte_at tag i).struck = λ i lt. sym (is.tag_bytes.each i (rw is.tag_length lt)).struck in
+    let at : (i : ℕ) → i < 4 → is_struck_byte (history_at i s.slot.tag_histories) ≡ is_bad (byte_at tag i) = λ i lt. sym (bad_struck (slice_index s.slot.tag i) (history_at i s.slot.tag_histories) (byte_at tag i) (is.tag_bytes.each i (rw is.tag_length lt))) in
     any_four is_struck_byte s.slot.tag_histories (is.tag_bytes.all_histories ∙ is.tag_length)
     ∙ ap (λ (b : Bool). b || (is_struck_byte (history_at 1 s.slot.tag_histories) || (is_struck_byte (history_at 2 s.slot.tag_histories) || is_struck_byte (history_at 3 s.slot.tag_histories)))) (at 0 (lit< tt))
-    ∙ ap (λ (b : Bool). (byte_at tag 0).struck || (b || (is_struck_byte (history_at 2 s.slot.tag_histories) || is_struck_byte (history_at 3 s.slot.tag_histories)))) (at 1 (lit< tt))
-    ∙ ap (λ (b : Bool). (byte_at tag 0).struck || ((byte_at tag 1).struck || (b || is_struck_byte (history_at 3 s.slot.tag_histories)))) (at 2 (lit< tt))
-    ∙ ap (λ (b : Bool). (byte_at tag 0).struck || ((byte_at tag 1).struck || ((byte_at tag 2).struck || b))) (at 3 (lit< tt))
+    ∙ ap (λ (b : Bool). is_bad (byte_at tag 0) || (b || (is_struck_byte (history_at 2 s.slot.tag_histories) || is_struck_byte (history_at 3 s.slot.tag_histories)))) (at 1 (lit< tt))
+    ∙ ap (λ (b : Bool). is_bad (byte_at tag 0) || (is_bad (byte_at tag 1) || (b || is_struck_byte (history_at 3 s.slot.tag_histories)))) (at 2 (lit< tt))
+    ∙ ap (λ (b : Bool). is_bad (byte_at tag 0) || (is_bad (byte_at tag 1) || (is_bad (byte_at tag 2) || b))) (at 3 (lit< tt))
 
 -- none is where the tag is not
 pub unstruck_tag : (hs : List (List Moment)) (i : ℕ) → list_any is_struck_byte hs ≡ false → is_struck_byte (history_at i hs) ≡ false

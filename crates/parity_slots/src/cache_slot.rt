@@ -107,12 +107,13 @@ impl Slot {
             && (self.tag_byte(0) == high && self.tag_byte(1) == middle && self.tag_byte(2) == low)
     }
 
-    /// Whether a flip stands in a tag byte.
+    /// Whether the parity of a tag byte is wrong.
     #[inline]
     pub fn has_struck_tag(&self) -> bool
         ensures { result ≡ has_struck_tag self.now.slot }
     {
-        self.tag[0].struck || (self.tag[1].struck || (self.tag[2].struck || self.tag[3].struck))
+        let [first, second, third, valid] = self.tag;
+        first.is_bad() || (second.is_bad() || (third.is_bad() || valid.is_bad()))
     }
 
     /// Whether word `place` of the line is valid.
@@ -136,21 +137,21 @@ impl Slot {
         self.is_valid_word(first) && (len < 8 || self.is_valid_word(first + 1))
     }
 
-    /// Whether a flip stands in one of so many bytes of the line.
+    /// Whether the parity of one of so many bytes of the line is wrong.
     #[inline]
     fn has_struck(&self, first: usize, count: usize) -> bool
         requires { first + count ≤ 32 }
         ensures { result ≡ has_struck_in first count self.now.slot }
     {
         for i in 0..count {
-            if self.line[first + i].struck {
+            if self.line[first + i].is_bad() {
                 return true;
             }
         }
         false
     }
 
-    /// Whether a flip stands in a byte of the words that an access wants.
+    /// Whether the parity of a byte of the words that an access wants is wrong.
     #[inline]
     pub fn has_struck_byte(&self, addr: u32, len: u8) -> bool
         requires { IsAccess addr len }
