@@ -1,4 +1,4 @@
--- A flip that has struck no word so far is late, and no other is.
+-- A flip that has struck no word, or no unit of a cache, so far is late, and no other is.
 use Rattle.std.proofs.Common.{◌≡◌, ◌+◌, ◌*◌, ◌%◌, ◌<◌, ℕ, IsTrue, Bool, true, false, List, length, refl, sym, ap, subst, ◌∙◌, arith}
 use Rattle.std.proofs.lemmas.Bool.Decides.{nat_tests}
 use Rattle.coded_words.specs.Words.{Words, IsToCome}
@@ -7,10 +7,13 @@ use Rattle.flip_ledger.proofs.FateRule.{fate_struck}
 use Rattle.ft_memory.specs.Memory.{ram_of, history_of}
 use Rattle.lf_model.specs.Caches.Slot.{history_at}
 use Rattle.lf_model.specs.Fates.{fate_of}
-use Rattle.lf_model.specs.Flips.{Moment, word_budget}
+use Rattle.lf_model.specs.Caches.Slot.{Slot}
+use Rattle.lf_model.specs.Flips.{Moment, word_budget, byte_budget}
 use Rattle.lf_model.specs.Start.{ram_first, is_in_ram}
 use Rattle.lf_model.specs.declared.trace.Fate.{Fate}
 use Rattle.lf_model.specs.declared.trace.Fate.TheVariants.{Late}
+use Rattle.parity_slots.specs.SlotsState as slots
+use Rattle.parity_slots.specs.Units.{slot_units, histories_of}
 use Rattle.ram_words.specs.Ram.{place_of}
 
 not_true : (b : Bool) → (b ≡ true → ⊥) → b ≡ false
@@ -36,3 +39,11 @@ late_to_come-memory number m fate late struck =
     let there : place_of (ram_first + 4 * place) ≡ place = omega arith in
     subst (λ (p : ℕ). has_struck number (history_at p m.histories) ≡ true → fate ≡ fate_of word_budget number (history_at p m.histories)) there
     (struck (ram_first + 4 * place) (address_in m place within) (omega arith)) has)
+
+-- the same of the units of a cache
+pub late_to_come-cache : (number : ℕ) (ways : List Slot) (fate : Fate) → fate ≡ Late
+    → ((unit : ℕ) → unit < slot_units * length ways → has_struck number (histories_of ways unit) ≡ true → fate ≡ fate_of byte_budget number (histories_of ways unit))
+    → slots.IsToCome number ways
+late_to_come-cache number ways fate late struck =
+    λ unit within.
+    not_true (has_struck number (histories_of ways unit)) (λ has. fate_struck byte_budget number (histories_of ways unit) has (sym (struck unit within has) ∙ late))

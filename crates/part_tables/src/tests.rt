@@ -3,6 +3,7 @@ use std::process::Abort;
 mod arithmetic;
 mod buffer;
 mod byte_parity;
+mod caches;
 mod cells;
 mod decoding;
 mod encoding;
