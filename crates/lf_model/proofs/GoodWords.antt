@@ -120,7 +120,7 @@ one_back s below = omega (arith, below)
 abbrev joined : (s0 s1 s2 s3 s4 s5 s6 s7 : ℕ) → ℕ
 joined s0 s1 s2 s3 s4 s5 s6 s7 = (((((((0 * 256 + s0) * 256 + s1) * 256 + s2) * 256 + s3) * 256 + s4) * 256 + s5) * 256 + s6) * 256 + s7
 
-eight_back : (s0 s1 s2 s3 s4 s5 s6 s7 : ℕ) → s0 < 128 → s1 < 128 → s2 < 128 → s3 < 128 → s4 < 128 → s5 < 128 → s6 < 128 → s7 < 128 → unpacked 8 (s0 ∷ s1 ∷ s2 ∷ s3 ∷ s4 ∷ s5 ∷ s6 ∷ s7 ∷ []) ≡ s0 ∷ s1 ∷ s2 ∷ s3 ∷ s4 ∷ s5 ∷ s6 ∷ s7 ∷ []
+pub eight_back : (s0 s1 s2 s3 s4 s5 s6 s7 : ℕ) → s0 < 128 → s1 < 128 → s2 < 128 → s3 < 128 → s4 < 128 → s5 < 128 → s6 < 128 → s7 < 128 → unpacked 8 (s0 ∷ s1 ∷ s2 ∷ s3 ∷ s4 ∷ s5 ∷ s6 ∷ s7 ∷ []) ≡ s0 ∷ s1 ∷ s2 ∷ s3 ∷ s4 ∷ s5 ∷ s6 ∷ s7 ∷ []
 eight_back s0 s1 s2 s3 s4 s5 s6 s7 b0 b1 b2 b3 b4 b5 b6 b7 =
     let n = joined s0 s1 s2 s3 s4 s5 s6 s7 in
     let e0 : n * 1 / 2 ^ 56 % 256 ≡ s0 = omega (arith, b0, b1, b2, b3, b4, b5, b6, b7) in

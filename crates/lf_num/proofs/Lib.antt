@@ -2,3 +2,4 @@ pub mod Sums
 pub mod SignLemmas
 pub mod ToggleLemmas
 pub mod StepLemmas
+pub mod ShiftLemmas

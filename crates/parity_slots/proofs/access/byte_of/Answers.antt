@@ -1,5 +1,5 @@
 use Rattle.std.proofs.Common.{◌-◌}
-use Rattle.order_log.proofs.ByteLemmas.{shifted}
+use Rattle.lf_num.proofs.ShiftLemmas.{shifted}
 use Rattle.parity_slots.proofs.access.byte_of.Goals as goal
 
 pub returns : goal.returns
