@@ -9,7 +9,7 @@ use Rattle.lf_model.specs.Texts.{hex_field, line_feed}
 use Rattle.lf_model.specs.declared.setup.Event.{Event}
 use Rattle.lf_model.specs.declared.setup.Setup.{Setup}
 use Rattle.lf_model.specs.declared.trace.Trace.{Trace}
-use Rattle.machine_play.specs.Played.{IsPlayed}
+use Rattle.early_play.specs.Played.{IsPlayed}
 use Rattle.leon_main.proofs.SettledLemmas.{settled}
 use Rattle.leon_main.specs.Accepted.{AreParts, IsFirstRefusal}
 use Rattle.leon_main.specs.Call.{IsReportOf, IsFault, IsOutcome, status_of, text_of, IsFaultless, IsHindered, Tells, Refuses, Reports, Decides}

@@ -9,8 +9,8 @@ use Rattle.lf_model.specs.Texts.{hex_field, line_feed}
 use Rattle.lf_model.specs.declared.setup.Event.{Event}
 use Rattle.lf_model.specs.declared.setup.Setup.{Setup}
 use Rattle.lf_model.specs.declared.trace.Trace.{Trace}
-use Rattle.machine_play.specs.Playable.{IsPlayable}
-use Rattle.machine_play.specs.Played.{IsPlayed}
+use Rattle.early_play.specs.Playable.{IsPlayable}
+use Rattle.early_play.specs.Played.{IsPlayed}
 use Rattle.leon_main.specs.Accepted.{AreParts, IsFirstRefusal}
 use Rattle.leon_main.specs.Ends.{status_of_cores}
 use Rattle.leon_main.specs.Faults as faults

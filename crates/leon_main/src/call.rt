@@ -5,7 +5,7 @@ ghost use Rattle.lf_io.specs.Count.{Rose};
 ghost use Rattle.lf_io.specs.Held.{FileMap};
 ghost use Rattle.lf_io.specs.Taken.{Takes, TakesPrefix};
 ghost use Rattle.lf_model.specs.declared.setup.Event.{Event};
-ghost use Rattle.machine_play.specs.Playable.{IsPlayable};
+ghost use Rattle.early_play.specs.Playable.{IsPlayable};
 ghost use Rattle.leon_main.specs.Accepted.{AreParts};
 ghost use Rattle.leon_main.specs.Call.{IsOutcome, IsAnswered, IsCutOff, IsFaultless, Tells, Decides, IsSettled, status_of, text_of};
 ghost use Rattle.leon_main.specs.Faults.{line_of};
@@ -56,7 +56,7 @@ fn outcome_of<F: Files>(alloc: Global, words: &[String], files: &mut F) -> Resul
     match command_of(words) {
         Some(Command::Play(names)) => {
             let setup = setup_of(alloc, files, names)?;
-            let trace = machine_play::play(alloc, &setup)?;
+            let trace = early_play::play(alloc, &setup)?;
             Ok(Answer::Report(trace))
         }
         Some(Command::Codes(word)) => Ok(Answer::CheckBits(check_bits(word))),

@@ -1,0 +1,20 @@
+use Rattle.std.proofs.Common.{refl, ◌∙◌, arith}
+use Rattle.early_exec.specs.Accesses.{load_access}
+use Rattle.early_exec.proofs.LoadLemmas.{load_double_does, operation_keeps}
+use Rattle.early_exec.proofs.memory.load_double.Goals as goal
+
+pub returns-in-Ok-clause-does : goal.returns-in-Ok-clause-does
+returns-in-Ok-clause-does g c registers good =
+    load_double_does (g.P.Ports.seen c.args.p.now) (g.P.Ports.seen c.look.new.p) (g.P.Ports.seen c.write_register.new.p) (g.P.Ports.seen c.retire_with.new.p)
+    (g.P.Ports.parts c.args.p.now) c.args.a.now c.retire_with.new.a c.args.addr c.args.rd c.in-Ok.value _ _ registers
+    c.in-Ok.ensures.looks refl refl c.write_register.ensures.state c.write_register.ensures.ops
+    c.retire_with.ensures.state c.retire_with.ensures.ops good
+
+pub returns-in-Ok-clause-keeps : goal.returns-in-Ok-clause-keeps
+returns-in-Ok-clause-keeps g c =
+    operation_keeps (g.P.Ports.seen c.args.p.now) (g.P.Ports.seen c.look.new.p) (g.P.Ports.seen c.retire_with.new.p)
+    c.args.a.now c.retire_with.new.a (load_access c.args.addr 8 0) c.in-Ok.value
+    (g.P.Ports.room c.args.p.now) (g.P.Ports.room c.look.new.p) (g.P.Ports.room c.retire_with.new.p)
+    (c.in-Ok.ensures.looks.made 0) (c.retire_with.ensures.ops ∙ c.write_register.ensures.ops) (c.retire_with.ensures.site ∙ c.write_register.ensures.site)
+    c.retire_with.ensures.sound c.retire_with.ensures.counts.0 c.retire_with.ensures.counts.1 c.retire_with.ensures.counts.2
+    c.look.ensures.room (omega (arith, c.write_register.ensures.room, c.retire_with.ensures.room))

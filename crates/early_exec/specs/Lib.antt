@@ -1,0 +1,5 @@
+pub mod Reading
+pub mod Calculating
+pub mod Accesses
+pub mod Frame
+pub mod Returning
