@@ -1,4 +1,4 @@
-ghost use Rattle.std.specs.Prelude.{◌≡◌, ◌∷◌, [], length, MatchOption, ℕ, List};
+ghost use Rattle.std.specs.Prelude.{◌≡◌, ◌∷◌, ◌≤◌, [], length, MatchOption, ℕ, List};
 ghost use Rattle.std.specs.Option.{option_map};
 ghost use Rattle.report_fields.specs.Reading.{without, word_at};
 
@@ -33,9 +33,10 @@ pub fn literal<'a>(text: &[u8], bytes: &'a [u8]) -> Option<&'a [u8]>
 pub trait Word: Copy {
     ghost text: { Self → List ℕ };
 
-    /// The word, with the byte that ends it.
+    /// The word, with the byte that ends it: at most 12 bytes.
     fn text(self) -> &'static [u8]
-        ensures text { result.now ≡ text self };
+        ensures text { result.now ≡ text self }
+        ensures short { length result.now ≤ 12 };
 }
 
 /// The first of these values whose word the bytes begin with, and the bytes after it.

@@ -9,6 +9,7 @@ use super::stream::Stream;
 use lf_io::Sink;
 use lf_model::bus::OpKind;
 use lf_model::trace::{Fate, Op, Word2};
+use report_fields::Word;
 
 /// Writes the line of the AHB failing address and status registers.
 pub fn write_ahb<K: Sink>(text: &mut Stream, out: &mut K, addr: u32, status: u32)
@@ -64,25 +65,12 @@ fn put_operation(piece: &mut Piece, op: &Op)
     requires room { array_vec_len piece.old + 1200 ≤ 4096 }
     ensures appended { piece.new.items ≡ piece.old.items ++ op_line op.now }
 {
-    put(piece, letter(op.kind));
+    put(piece, op.kind.text());
     put_number(piece, SPACE, u64::from(op.core));
     put_number(piece, SPACE, u64::from(op.k));
     put_number(piece, SPACE, u64::from(op.step));
     put_hex_field(piece, SPACE, 8, u64::from(op.addr));
     put_operands(piece, op);
-}
-
-/// The letter of a memory operation, and the space behind it.
-fn letter(kind: OpKind) -> &'static [u8]
-    ensures letter { result.now ≡ letter_of kind }
-    ensures short { length result.now ≤ 2 }
-{
-    match kind {
-        OpKind::Load => b"L ",
-        OpKind::Store => b"S ",
-        OpKind::Atomic => b"A ",
-        OpKind::Lost => b"X ",
-    }
 }
 
 /// Appends what a memory operation read and stored, two digits a byte, and the way of a load.
@@ -140,23 +128,7 @@ fn put_fate(piece: &mut Piece, i: u64, fate: Fate)
 {
     put(piece, b"f ");
     put_number(piece, SPACE, i);
-    put(piece, fate_text(fate));
-}
-
-/// The word for what became of a flip, and the line feed behind it.
-fn fate_text(fate: Fate) -> &'static [u8]
-    ensures word { result.now ≡ fate_word fate }
-    ensures short { length result.now ≤ 12 }
-{
-    match fate {
-        Fate::Late => b"late\n",
-        Fate::Declined => b"declined\n",
-        Fate::Repaired => b"repaired\n",
-        Fate::Discarded => b"discarded\n",
-        Fate::Stopped => b"stopped\n",
-        Fate::Overwritten => b"overwritten\n",
-        Fate::Dormant => b"dormant\n",
-    }
+    put(piece, fate.text());
 }
 
 /// Writes the number of watched words, and a line for each.

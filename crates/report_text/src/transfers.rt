@@ -11,8 +11,9 @@ ghost use Rattle.report_text.specs.Written.{Writes, progress};
 use super::fields::{LINE_FEED, Piece, SPACE, put, put_hex_field, put_number};
 use super::stream::Stream;
 use lf_io::Sink;
-use lf_model::bus::{OpKind, Transfer, TurnKind, Why};
-use lf_model::trace::{CoreEnd, CoreResult, Op, Trace};
+use lf_model::bus::{Transfer, TurnKind};
+use lf_model::trace::{CoreResult, Op, Trace};
+use report_fields::{Word, length_at};
 
 /// Writes the number of transfers, and a line for each.
 pub fn write_transfers<K: Sink>(text: &mut Stream, out: &mut K, trace: &Trace)
@@ -49,59 +50,6 @@ fn write_transfer_list<K: Sink>(
     }
 }
 
-/// The length of a transfer's entry in the log, 0 where it has none, and the part of the order that is left for
-/// the transfers after it.
-fn length_at<'a>(cores: &[CoreResult], order: &'a [Op], transfer: &Transfer) -> (u8, &'a [Op])
-    ensures length { result.0 ≡ (if has_entry cores.now transfer.now then option_map_or length_of (slice_get (filter enters order.now) 0) 0 else 0) }
-    ensures later { filter enters result.1.now ≡ (if has_entry cores.now transfer.now then drop 1 (filter enters order.now) else filter enters order.now) }
-{
-    if is_entry(cores, transfer) {
-        next_length(order)
-    } else {
-        (0, order)
-    }
-}
-
-/// The length of the first operation that entered memory, and the operations after it.
-fn next_length(order: &[Op]) -> (u8, &[Op])
-    ensures length { result.0 ≡ option_map_or length_of (slice_get (filter enters order.now) 0) 0 }
-    ensures later { filter enters result.1.now ≡ drop 1 (filter enters order.now) }
-{
-    let mut left = order;
-    while let Some((op, later)) = left.split_first() {
-        if matches!(op.kind, OpKind::Store | OpKind::Atomic) {
-            return (op.len, later);
-        }
-        left = later;
-    }
-    (0, left)
-}
-
-/// The transfer has an entry in the log: it is a store or an atomic that met no bad word.
-fn is_entry(cores: &[CoreResult], transfer: &Transfer) -> bool
-    ensures entry { result ≡ has_entry cores.now transfer.now }
-{
-    matches!(transfer.kind, TurnKind::Store | TurnKind::Atomic)
-        && !is_stop_of_any(cores, transfer.turn)
-}
-
-/// A core stopped at the transfer of this turn.
-fn is_stop_of_any(cores: &[CoreResult], turn: u32) -> bool
-    ensures any { result ≡ list_any (core_stops_at turn) cores.now }
-{
-    cores.iter().any(|core| is_stop(core.end, turn))
-}
-
-/// The end is a stop at the transfer of this turn: at a load or an atomic, or at a part store.
-fn is_stop(end: CoreEnd, turn: u32) -> bool
-    ensures stop { result ≡ stops_at turn end }
-{
-    match end {
-        CoreEnd::Stop { tt, place, .. } => place == turn && (tt == 0x09 || tt == 0x2b),
-        CoreEnd::Halt(_) | CoreEnd::Limit => false,
-    }
-}
-
 /// Writes the line of a transfer whose entry in the log has this length.
 fn write_transfer<K: Sink>(text: &mut Stream, out: &mut K, len: u8, transfer: &Transfer)
     ensures written { Writes (progress (K.taken out.old) (K.faults out.old) text.old)
@@ -129,49 +77,11 @@ fn put_action(piece: &mut Piece, len: u8, transfer: &Transfer)
     requires room { array_vec_len piece.old + 600 ≤ 4096 }
     ensures appended { let t = transfer.now in piece.new.items ≡ piece.old.items ++ (kind_word t.kind ++ (why_word t.why ++ (hex_field SPACE 8 t.addr ++ (way_field t.kind t.way ++ syn_field t.kind len t)))) }
 {
-    put(piece, kind_text(transfer.kind));
-    put(piece, why_text(transfer.why));
+    put(piece, transfer.kind.text());
+    put(piece, transfer.why.text());
     put_hex_field(piece, SPACE, 8, u64::from(transfer.addr));
     put_way(piece, transfer.kind, transfer.way);
     put_syndrome_field(piece, len, transfer);
-}
-
-/// The word for what a transfer does, and the space behind it.
-fn kind_text(kind: TurnKind) -> &'static [u8]
-    ensures word { result.now ≡ kind_word kind }
-    ensures short { length result.now ≤ 7 }
-{
-    match kind {
-        TurnKind::Fetch => b"fetch ",
-        TurnKind::Load => b"load ",
-        TurnKind::Store => b"store ",
-        TurnKind::Atomic => b"atomic ",
-        TurnKind::Snoop => b"snoop ",
-        TurnKind::Look => b"look ",
-        TurnKind::Fix => b"fix ",
-    }
-}
-
-/// The word for why a transfer is made, and the space behind it.
-fn why_text(why: Why) -> &'static [u8]
-    ensures word { result.now ≡ why_word why }
-    ensures short { length result.now ≤ 7 }
-{
-    match why {
-        Why::None => b"- ",
-        Why::Absent => b"absent ",
-        Why::Word => b"word ",
-        Why::Tag => b"tag ",
-        Why::Byte => b"data ",
-        Why::Full => b"full ",
-        Why::Miss => b"miss ",
-        Why::Stbar => b"stbar ",
-        Why::Atomic => b"atomic ",
-        Why::Flush => b"flush ",
-        Why::Window => b"window ",
-        Why::End => b"end ",
-        Why::Sched => b"sched ",
-    }
 }
 
 /// Appends the way of a fill, and a dash for any other transfer.
