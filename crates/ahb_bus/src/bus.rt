@@ -29,8 +29,6 @@ pub struct Bus {
 }
 
 impl Model for Bus {
-    ghost use Rattle.lf_model.specs.Bus.Status.{status_start};
-    ghost use Rattle.ahb_bus.specs.BusOk.{BusOk, HasBytes};
     ghost use Rattle.ahb_bus.specs.BusState.{BusState};
 
     ghost Value = { BusState };
