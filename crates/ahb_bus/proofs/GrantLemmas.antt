@@ -1,7 +1,6 @@
 -- The masters after the last one, tried one after the other.
-use Rattle.std.proofs.Common.{◌≡◌, ℕ, suc, ◌+◌, ◌-◌, ◌%◌, ◌<◌, Bool, true, false, cond, nat_eq, List, map, Option, Some, None, refl, sym, ap, ◌∙◌, arith}
+use Rattle.std.proofs.Common.{◌≡◌, ℕ, suc, ◌+◌, ◌-◌, ◌<◌, Bool, true, false, cond, map, Some, None, refl, ap, ◌∙◌, arith}
 use Rattle.std.specs.Prelude.{find}
-use Rattle.std.specs.Int.{bit_at}
 use Rattle.std.specs.List.{range_with_len}
 use Rattle.ahb_bus.specs.Grant.{master_after, asks_for, granted_from}
 

@@ -1,21 +1,21 @@
 -- What holds of the bus goes on to hold as a turn's transfer is made, and what users see of it.
-use Rattle.std.proofs.Common.{◌≡◌, ℕ, ◌+◌, ◌/◌, ◌%◌, ◌^◌, ◌<◌, ◌≤◌, ◌&&◌, ◌||◌, cond, nat_lt, nat_eq, slice_set, Ok, Err, IsTrue, inl, inr, Bool, true, false, List, [], ◌∷◌, ◌++◌, length, refl, sym, ap, ap₂, ◌∙◌, subst, arith}
+use Rattle.std.proofs.Common.{◌≡◌, ℕ, ◌+◌, ◌*◌, ◌/◌, ◌%◌, ◌^◌, ◌<◌, ◌≤◌, ◌&&◌, ◌||◌, cond, nat_lt, nat_eq, slice_set, Ok, Err, IsTrue, inl, inr, Bool, true, false, List, [], ◌∷◌, ◌++◌, length, refl, sym, ap, ap₂, ◌∙◌, subst, arith}
 use Rattle.std.proofs.lemmas.List.{append-nil}
-use Rattle.std.specs.Prelude.{count_by, is_ok, Contains}
+use Rattle.std.specs.Prelude.{is_ok, Contains}
 use Rattle.std.proofs.lemmas.Bool.{cases_eq}
 use Rattle.std.proofs.lemmas.Bool.Decides.{nat_tests}
-use Rattle.bus_memory.specs.MemoryState.{MemoryState, words_at, words_met, made, merged_in, stored, is_bad_at, value_at, syndrome_at, store_answer, read_answer}
+use Rattle.bus_memory.specs.MemoryState.{MemoryState, words_met, made, merged_in, stored, is_bad_at, value_at, syndrome_at, store_answer, read_answer}
 use Rattle.lf_model.specs.Bus.Words.{word_of}
-use Rattle.lf_model.specs.Once.{HasMaster}
 use Rattle.lf_model.specs.Promise.Regular.{is_length}
-use Rattle.lf_model.specs.Records.SeenOrder.{is_entry_of}
 use Rattle.lf_model.specs.declared.bus.Bad.{Bad}
 use Rattle.lf_model.specs.declared.bus.Pending.{Pending}
 use Rattle.lf_model.specs.declared.bus.TurnKind.{TurnKind}
+use Rattle.lf_model.specs.declared.bus.TurnKind.TheVariants.{Store, Atomic}
 use Rattle.lf_model.specs.declared.bus.Why.{Why}
-use Rattle.lf_model.specs.declared.config.Config.{Config}
+use Rattle.lf_model.specs.declared.bus.Why.TheVariants as whys
 use Rattle.ram_words.specs.Parts.{merged}
-use Rattle.ram_words.specs.Ram.{place_of}
+use Rattle.ram_words.specs.Ram.{place_of, first_words}
+use Rattle.lf_model.specs.declared.setup.Setup.{Setup}
 use Rattle.ram_words.specs.declared.answer.Got.{Got}
 use Rattle.ahb_bus.specs.declared.record.Who.{Who}
 use Rattle.lf_model.specs.Records.BusMemory.{with_answer}
@@ -23,11 +23,32 @@ use Rattle.lf_model.specs.declared.bus.Entry.{Entry}
 use Rattle.lf_model.specs.declared.bus.Transfer.{Transfer}
 use Rattle.lf_model.specs.declared.flip.Flip.{Flip}
 use Rattle.order_log.specs.LogState.{LogState}
-use Rattle.ahb_bus.specs.Asks.{IsCoreTurn, HasEntryLeft, HasLeft}
-use Rattle.ahb_bus.specs.BusState.{BusState, memory_of, asked_by, after_turn, atomic_entry, word_of_answer}
-use Rattle.ahb_bus.specs.Inside.{seen, AreShared, IsBus}
+use Rattle.ahb_bus.specs.Asks.{IsTaken}
+use Rattle.ahb_bus.specs.BusOk.{BusOk, HasBytes}
+use Rattle.ahb_bus.specs.BusState.{BusState, most_transfers, most_entries, memory_of, asked_by, after_turn, store_entry, atomic_entry, word_of_answer}
+use Rattle.ahb_bus.specs.Inside.{seen, IsBus}
 use Rattle.ahb_bus.specs.declared.bus.Bus.TheInside.{Inside}
-use Rattle.ahb_bus.proofs.ShareLemmas.{room_left, log_room_left, shared_made, shared_entered, core_left}
+use Rattle.ahb_bus.proofs.StoreLemmas.{leaves_store, leaves_atomic}
+use Rattle.ahb_bus.proofs.TakenLemmas.{MayStore}
+use Rattle.ahb_bus.proofs.OkLemmas.{Leaves, leaves_none, ok_made, ok_start, started}
+use Rattle.ahb_bus.proofs.ShareLemmas.{room_left, log_room_left}
+use Rattle.lf_model.specs.Bus.Status.{AhbStatus, status_start, status_by}
+use Rattle.lf_model.specs.TransferLines.{makes_entry}
+
+-- a new bus
+pub is_bus : (setup : Setup) (bus : Inside) → setup.config.ram % 4 ≡ 0 → setup.config.cores ≤ 8 → HasBytes setup.image
+    → bus.memory ≡ record { script = setup.flips; transfers = []; begun = false; values = first_words setup.config.ram setup.image; room = most_transfers setup.config }
+    → bus.log ≡ record { entries = []; room = most_entries setup.config } → bus.status ≡ status_start → bus.setup.value ≡ setup → IsBus bus
+is_bus setup bus whole cores bytes memory log status value =
+    let same : seen bus ≡ started setup =
+    ap₂ (λ (m : MemoryState) (l : LogState). record { setup = bus.setup.value; log = l.entries; transfers = m.transfers; begun = m.begun; values = m.values; status = bus.status }) memory log
+    ∙ ap₂ (λ (s : AhbStatus) (x : Setup). record { setup = x; log = []; transfers = []; begun = false; values = first_words setup.config.ram setup.image; status = s }) status value in
+    record {
+      script = ap (λ (m : MemoryState). m.script) memory ∙ ap (λ (s : Setup). s.flips) (sym value);
+      room = ap (λ (m : MemoryState). m.room) memory ∙ ap (λ (s : Setup). most_transfers s.config) (sym value);
+      log_room = ap (λ (l : LogState). l.room) log ∙ ap (λ (s : Setup). most_entries s.config) (sym value);
+      ok = subst BusOk (sym same) (ok_start setup whole cores bytes);
+    }
 
 module _ (old : Inside) (is : IsBus old) where
   -- memory as users see it
@@ -35,56 +56,63 @@ module _ (old : Inside) (is : IsBus old) where
   memory_is =
       ap₂ (λ (script : List Flip) (room : ℕ). record { script = script; transfers = old.memory.transfers; begun = old.memory.begun; values = old.memory.values; room = room }) is.script is.room
 
-  module _ (asked : Transfer) (left : HasLeft old.setup.value.config old.memory.transfers asked) where
+  module _ (asked : Transfer) (taken : IsTaken (seen old) asked) where
     pub room_for : length old.memory.transfers < old.memory.room
-    room_for = let less = room_left old.setup.value.config old.memory.transfers old.log.entries is.cores is.shared asked left in omega (arith, less, is.room)
+    room_for =
+        let less = room_left old.setup.value.config old.memory.transfers old.log.entries is.ok.cores is.ok.shares asked taken.left in
+        omega (arith, less, is.room)
 
-    -- the transfer is made, and memory and log are these
-    module _ (values : List ℕ) (entries : List Entry) {memory : MemoryState} {log : LogState}
+    -- the transfer is made, and memory, log and AHBSTAT are these
+    module _ (values : List ℕ) (entries : List Entry) {memory : MemoryState} {log : LogState} {status : AhbStatus}
         (turned : memory ≡ made asked (record old.memory { values = values }))
-        (entered : log ≡ record old.log { entries = old.log.entries ++ entries }) where
-      pub bus_made : AreShared old.setup.value.config (old.memory.transfers ++ with_answer (words_met old.memory) asked ∷ []) (old.log.entries ++ entries)
-          → IsBus (record old { memory = memory; log = log })
-      bus_made shared = rw (turned, entered) (record {
-        script = is.script;
-        room = is.room;
-        log_room = is.log_room;
-        cores = is.cores;
-        shared = shared;
-      })
-
-      pub seen_made : seen (record old { memory = memory; log = log }) ≡ after_turn asked entries values (seen old)
+        (entered : log ≡ record old.log { entries = old.log.entries ++ entries })
+        (noted : status ≡ status_by old.status (with_answer (words_met old.memory) asked)) where
+      pub seen_made : seen (record old { memory = memory; log = log; status = status }) ≡ after_turn asked entries values (seen old)
       seen_made =
-          ap₂ (λ (m : MemoryState) (l : LogState). record { setup = old.setup.value; log = l.entries; transfers = m.transfers; begun = m.begun; values = m.values }) turned entered
-          ∙ ap (λ (script : List Flip). record {
+          ap₂ (λ (m : MemoryState) (l : LogState). record { setup = old.setup.value; log = l.entries; transfers = m.transfers; begun = m.begun; values = m.values; status = status }) turned entered
+          ∙ ap (λ (s : AhbStatus). record {
             setup = old.setup.value;
             log = old.log.entries ++ entries;
-            transfers = old.memory.transfers ++ with_answer (words_at script old.memory.transfers old.memory.begun) asked ∷ [];
+            transfers = old.memory.transfers ++ with_answer (words_met old.memory) asked ∷ [];
             begun = false;
             values = values;
-          }) is.script
+            status = s;
+          }) noted
+          ∙ ap (λ (m : MemoryState). record {
+            setup = old.setup.value;
+            log = old.log.entries ++ entries;
+            transfers = old.memory.transfers ++ with_answer (words_met m) asked ∷ [];
+            begun = false;
+            values = values;
+            status = status_by old.status (with_answer (words_met m) asked);
+          }) memory_is
+
+      pub bus_made : old.memory.begun ≡ true → Leaves (seen old) asked entries values → IsBus (record old { memory = memory; log = log; status = status })
+      bus_made begun leaves = record {
+        script = ap (λ (m : MemoryState). m.script) turned ∙ is.script;
+        room = ap (λ (m : MemoryState). m.room) turned ∙ is.room;
+        log_room = ap (λ (l : LogState). l.room) entered ∙ is.log_room;
+        ok = subst BusOk (sym seen_made) (ok_made (seen old) asked entries values is.ok begun taken leaves);
+      }
 
     -- the same with the log as before
-    module _ (values : List ℕ) {memory : MemoryState} (turned : memory ≡ made asked (record old.memory { values = values })) where
+    module _ {memory : MemoryState} {status : AhbStatus} (turned : memory ≡ made asked old.memory)
+        (noted : status ≡ status_by old.status (with_answer (words_met old.memory) asked)) where
       same_log : old.log ≡ record old.log { entries = old.log.entries ++ [] }
       same_log = ap (λ (es : List Entry). record old.log { entries = es }) (sym (append-nil old.log.entries))
 
-      pub bus_read : IsBus (record old { memory = memory })
-      bus_read =
-          bus_made values [] turned same_log
-          (subst (AreShared old.setup.value.config (old.memory.transfers ++ with_answer (words_met old.memory) asked ∷ [])) (sym (append-nil old.log.entries))
-          (shared_made old.setup.value.config old.memory.transfers old.log.entries is.cores is.shared (with_answer (words_met old.memory) asked)
-          (record { master = left.master; core_share = left.core_share; scrub_share = left.scrub_share })))
+      pub bus_read : old.memory.begun ≡ true → makes_entry asked.kind ≡ false → asked.len ≡ 0 → IsBus (record old { memory = memory; status = status })
+      bus_read begun makes len = bus_made old.memory.values [] turned same_log noted begun (leaves_none (seen old) asked is.ok taken makes len)
 
-      pub seen_read : seen (record old { memory = memory }) ≡ after_turn asked [] values (seen old)
-      seen_read = seen_made values [] turned same_log
+      pub seen_read : seen (record old { memory = memory; status = status }) ≡ after_turn asked [] old.memory.values (seen old)
+      seen_read = seen_made old.memory.values [] turned same_log noted
 
 -- the fields that users see
 pub begun_in : (old : Inside) (s : BusState) → seen old ≡ s → s.begun ≡ true → old.memory.begun ≡ true
 begun_in old s view begun = ap (λ (b : BusState). b.begun) view ∙ begun
 
-pub left_in : (old : Inside) (s : BusState) (asked : Transfer) → seen old ≡ s → HasLeft s.setup.config s.transfers asked → HasLeft old.setup.value.config old.memory.transfers asked
-left_in old s asked view left = subst (λ (b : BusState). HasLeft b.setup.config b.transfers asked) (sym view) left
+pub taken_in : (old : Inside) (s : BusState) (asked : Transfer) → seen old ≡ s → IsTaken s asked → IsTaken (seen old) asked
+taken_in old s asked view taken = subst (λ (b : BusState). IsTaken b asked) (sym view) taken
 
 -- ---- the transfer that is asked for
 
@@ -153,31 +181,29 @@ atomic_entered m w p addr = by (is_bad_at m addr)
     by true = refl
     by false = refl
 
-shared_with : (config : Config) (ts : List Transfer) (log : List Entry) (lost : Bool) (e : Entry) → config.cores ≤ 8 → AreShared config ts log → e.core < config.cores
-    → count_by (is_entry_of e.core) log < config.steps → AreShared config ts (log ++ cond lost [] (e ∷ []))
-shared_with config ts log true e cores shared within less = subst (AreShared config ts) (sym (append-nil log)) shared
-shared_with config ts log false e cores shared within less = shared_entered config ts log cores shared e within less
+-- ---- what is known of a core's store or atomic
 
--- what is known of a core's store or atomic
-module _ (old : Inside) (is : IsBus old) (w : Who) (kind : TurnKind) (why : Why) (p : Pending) (has : HasMaster old.setup.value.config.cores w.master kind)
-    (turn : IsCoreTurn w (seen old)) (entry : HasEntryLeft w (seen old)) where
-  abbrev asked_of : Transfer
-  asked_of = asked_by (seen old) w kind why p.addr 0 p.len
-
-  pub store_left : HasLeft old.setup.value.config old.memory.transfers (asked_by (seen old) w kind why p.addr 0 p.len)
-  store_left = core_left old.setup.value.config old.memory.transfers (asked_by (seen old) w kind why p.addr 0 p.len) is.cores has turn.master turn.share
-
+module _ (old : Inside) (is : IsBus old) (w : Who) (p : Pending) (may : MayStore w p (seen old)) where
   pub entry_room : length old.log.entries < old.log.room
-  entry_room = let less = log_room_left old.setup.value.config old.memory.transfers old.log.entries is.cores is.shared w.master turn.master entry in omega (arith, less, is.log_room)
+  entry_room =
+      let less = log_room_left old.setup.value.config old.memory.transfers old.log.entries is.ok.cores is.ok.shares w.master may.turn.master may.entry in
+      omega (arith, less, is.log_room)
 
-  pub shared_stored : (lost : Bool) (e : Entry) → e.core ≡ w.master
-      → AreShared old.setup.value.config (old.memory.transfers ++ with_answer (words_met old.memory) (asked_by (seen old) w kind why p.addr 0 p.len) ∷ []) (old.log.entries ++ cond lost [] (e ∷ []))
-  shared_stored lost e core =
-      shared_with old.setup.value.config (old.memory.transfers ++ with_answer (words_met old.memory) (asked_by (seen old) w kind why p.addr 0 p.len) ∷ []) old.log.entries lost e is.cores
-      (shared_made old.setup.value.config old.memory.transfers old.log.entries is.cores is.shared (with_answer (words_met old.memory) (asked_by (seen old) w kind why p.addr 0 p.len))
-      (record { master = store_left.master; core_share = store_left.core_share; scrub_share = store_left.scrub_share }))
-      (subst (λ (c : ℕ). c < old.setup.value.config.cores) (sym core) turn.master)
-      (subst (λ (c : ℕ). count_by (is_entry_of c) old.log.entries < old.setup.value.config.steps) (sym core) entry)
+  pub master_in : w.master < 9
+  master_in = let core = may.turn.master in let few = is.ok.cores in omega (arith, core, few)
+
+  module _ (aligned : p.addr % p.len ≡ 0) (fits : p.value < 2 ^ (8 * p.len)) where
+    pub store_leaves : (why : Why) → is_length p.len ≡ true → IsTaken (seen old) (asked_by (seen old) w Store why p.addr 0 p.len)
+        → Leaves (seen old) (asked_by (seen old) w Store why p.addr 0 p.len) (cond (lost_in old.memory p.addr p.len) [] (store_entry w p ∷ [])) (stored p.addr p.len p.value old.memory).values
+    store_leaves why size taken =
+        subst (λ (m : MemoryState). Leaves (seen old) (asked_by (seen old) w Store why p.addr 0 p.len) (cond (lost_in m p.addr p.len) [] (store_entry w p ∷ [])) (stored p.addr p.len p.value m).values)
+        (sym (memory_is old is)) (leaves_store (seen old) is.ok w p may.turn may.entry may.in_ram aligned fits may.text why size taken)
+
+    pub atomic_leaves : IsTrue (nat_eq p.len 1 || nat_eq p.len 4) → IsTaken (seen old) (asked_by (seen old) w Atomic whys.None p.addr 0 p.len)
+        → Leaves (seen old) (asked_by (seen old) w Atomic whys.None p.addr 0 p.len) (cond (bad_in old.memory p.addr) [] (atomic_entry w p (word_at old.memory p.addr) ∷ [])) (merged_in p.addr p.len p.value old.memory).values
+    atomic_leaves size taken =
+        subst (λ (m : MemoryState). Leaves (seen old) (asked_by (seen old) w Atomic whys.None p.addr 0 p.len) (cond (bad_in m p.addr) [] (atomic_entry w p (word_at m p.addr) ∷ [])) (merged_in p.addr p.len p.value m).values)
+        (sym (memory_is old is)) (leaves_atomic (seen old) is.ok w p may.turn may.entry may.in_ram aligned fits may.text size (word_at (memory_of (seen old)) p.addr) taken)
 
 -- entries that the log takes
 pub is_length_of : (len : ℕ) → is_length len ≡ true → Contains (1 ∷ 2 ∷ 4 ∷ 8 ∷ []) len

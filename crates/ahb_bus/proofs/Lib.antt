@@ -1,3 +1,12 @@
 pub mod ShareLemmas
+pub mod NumberBytes
+pub mod LogLeft
+pub mod AnsweredLemmas
+pub mod NotingLemmas
+pub mod UncleanLemmas
+pub mod BytesLemmas
+pub mod OkLemmas
+pub mod StoreLemmas
+pub mod TakenLemmas
 pub mod InsideLemmas
 pub mod GrantLemmas

@@ -18,7 +18,7 @@ use Rattle.lf_model.specs.declared.bus.TurnKind.TheVariants.{Fetch, Load, Store,
 use Rattle.lf_model.specs.declared.config.Config.{Config}
 use Rattle.ahb_bus.specs.Asks.{HasLeft}
 use Rattle.ahb_bus.specs.BusState.{most_transfers, most_entries}
-use Rattle.ahb_bus.specs.Inside.{IsOfMaster, AreShared}
+use Rattle.ahb_bus.specs.BusOk.{IsOfMaster, AreShared}
 
 -- ---- sums of counts
 
@@ -119,6 +119,10 @@ a_master cores t Atomic has = inl has
 a_master cores t Snoop has = inl has
 a_master cores t Look has = inr has
 a_master cores t Fix has = inr has
+
+-- masters are numbered from 0 to 8
+pub master_below : (cores : ℕ) (t : Transfer) → cores ≤ 8 → HasMaster cores t.master t.kind → t.master < 9
+master_below cores t few has = ⊎_elim (λ core. omega (arith, core, few)) (λ scrub. omega (arith, scrub)) (a_master cores t t.kind has)
 
 module _ (config : Config) (ts : List Transfer) (log : List Entry) (cores : config.cores ≤ 8) (shared : AreShared config ts log) where
   pub room_left : (t : Transfer) → HasLeft config ts t → length ts < most_transfers config

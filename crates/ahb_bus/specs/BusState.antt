@@ -1,6 +1,7 @@
 -- The bus as its users see it.
 use Rattle.std.specs.Prelude.{ℕ, ◌+◌, ◌-◌, ◌*◌, ◌/◌, ◌%◌, ◌^◌, ◌&&◌, nat_lt, Bool, false, List, [], ◌∷◌, ◌++◌, length, Result, Ok, Err, if◌then◌else◌}
 use Rattle.bus_memory.specs.MemoryState.{MemoryState, words_met, is_bad_at, value_at, stored, merged_in}
+use Rattle.lf_model.specs.Bus.Status.{AhbStatus, status_by}
 use Rattle.lf_model.specs.Bus.Words.{word_of}
 use Rattle.lf_model.specs.Records.BusMemory.{with_answer}
 use Rattle.lf_model.specs.declared.bus.Bad.{Bad}
@@ -27,6 +28,8 @@ pub record BusState : Type 0 where
   pub begun : Bool
   -- of each word of RAM, from the first address on, the number last written
   pub values : List ℕ
+  -- AHBSTAT
+  pub status : AhbStatus
 
 -- ---- shares
 
@@ -49,10 +52,6 @@ memory_of bus = record {
   room = most_transfers bus.setup.config;
 }
 
--- the bytes of RAM
-abbrev pub ram_of : BusState → ℕ
-ram_of bus = 4 * length bus.values
-
 -- ---- turns
 
 -- the transfer that a master asks for, before memory answers
@@ -74,13 +73,15 @@ asked_by bus who kind why addr way len = record {
 abbrev pub answered : BusState → Transfer → Transfer
 answered bus asked = with_answer (words_met (memory_of bus)) asked
 
--- the bus after a turn: its transfer is made, with these entries of the log, and memory has these numbers
+-- the bus after a turn: its transfer is made, with these entries of the log, memory has these numbers, and AHBSTAT has noted a word
+-- that was read not clean
 abbrev pub after_turn : Transfer → List Entry → List ℕ → BusState → BusState
 after_turn asked entries values bus = record bus {
   log = bus.log ++ entries;
   transfers = bus.transfers ++ answered bus asked ∷ [];
   begun = false;
   values = values;
+  status = status_by bus.status (answered bus asked);
 }
 
 -- the word that an address lies in reads bad

@@ -7,6 +7,7 @@
 mod arbiter;
 mod bus;
 mod lines;
+mod noting;
 mod record;
 mod single;
 mod stores;

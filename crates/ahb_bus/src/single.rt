@@ -1,12 +1,15 @@
-ghost use Rattle.std.specs.Prelude.{◌≡◌, ◌%◌, [], true, IsTrue};
+ghost use Rattle.std.specs.Prelude.{◌≡◌, ◌%◌, [], true, false, IsTrue};
 ghost use Rattle.bus_memory.specs.MemoryState.{fix_answer};
 ghost use Rattle.lf_model.specs.Start.{is_in_ram};
 ghost use Rattle.lf_model.specs.declared.bus.TurnKind.TheVariants.{Snoop, Fix};
 ghost use Rattle.lf_model.specs.declared.bus.Why.TheVariants as whys;
-ghost use Rattle.ahb_bus.specs.Asks.{IsCoreTurn, IsScrubTurn, HasLeft};
-ghost use Rattle.ahb_bus.specs.BusState.{ram_of, memory_of, asked_by, after_turn};
+ghost use Rattle.lf_model.specs.TransferLines.{makes_entry};
+ghost use Rattle.ahb_bus.specs.Asks.{IsCoreTurn, IsScrubTurn, IsTaken};
+ghost use Rattle.ahb_bus.specs.BusOk.{BusOk};
+ghost use Rattle.ahb_bus.specs.BusState.{memory_of, asked_by, after_turn};
 
 use crate::bus::Bus;
+use crate::noting::note_fix;
 use crate::record::Who;
 use crate::transfer::asked;
 use bus_memory::Fixed;
@@ -17,7 +20,8 @@ impl Bus {
     pub fn snooped(&mut self, w: Who)
         requires begun { self.old.begun ≡ true }
         requires turn { IsCoreTurn w self.old }
-        ensures { self.new ≡ after_turn (asked_by self.old w Snoop whys.Window 0 0 0) [] self.old.values self.old }
+        ensures made { self.new ≡ after_turn (asked_by self.old w Snoop whys.Window 0 0 0) [] self.old.values self.old }
+        ensures ok { BusOk self.new }
     {
         let made = asked(self.memory.turns(), w, TurnKind::Snoop, Why::Window, 0);
         self.snoop(made);
@@ -25,9 +29,12 @@ impl Bus {
 
     fn snoop(&mut self, asked: Transfer)
         requires begun { self.old.begun ≡ true }
-        requires turn { HasLeft self.old.setup.config self.old.transfers asked }
+        requires taken { IsTaken self.old asked }
+        requires entry { makes_entry asked.kind ≡ false }
+        requires length { asked.len ≡ 0 }
         requires kind { asked.kind ≡ Snoop }
-        ensures { self.new ≡ after_turn asked [] self.old.values self.old }
+        ensures made { self.new ≡ after_turn asked [] self.old.values self.old }
+        ensures ok { BusOk self.new }
     {
         self.memory.snoop(asked);
     }
@@ -37,10 +44,11 @@ impl Bus {
     pub fn fix(&mut self, w: Who, addr: u32) -> Fixed
         requires begun { self.old.begun ≡ true }
         requires turn { IsScrubTurn w self.old }
-        requires in_ram { IsTrue (is_in_ram (ram_of self.old) addr 4) }
+        requires in_ram { IsTrue (is_in_ram (self.old.setup.config.ram) addr 4) }
         requires aligned { addr % 4 ≡ 0 }
         ensures answer { result ≡ fix_answer (memory_of self.old) addr }
         ensures made { self.new ≡ after_turn (asked_by self.old w Fix whys.None addr 0 0) [] self.old.values self.old }
+        ensures ok { BusOk self.new }
     {
         let made = asked(self.memory.turns(), w, TurnKind::Fix, Why::None, addr);
         self.fix_word(made)
@@ -48,13 +56,18 @@ impl Bus {
 
     fn fix_word(&mut self, asked: Transfer) -> Fixed
         requires begun { self.old.begun ≡ true }
-        requires turn { HasLeft self.old.setup.config self.old.transfers asked }
+        requires taken { IsTaken self.old asked }
+        requires entry { makes_entry asked.kind ≡ false }
+        requires length { asked.len ≡ 0 }
         requires kind { asked.kind ≡ Fix }
-        requires in_ram { IsTrue (is_in_ram (ram_of self.old) asked.addr 4) }
+        requires in_ram { IsTrue (is_in_ram (self.old.setup.config.ram) asked.addr 4) }
         requires aligned { asked.addr % 4 ≡ 0 }
         ensures answer { result ≡ fix_answer (memory_of self.old) asked.addr }
         ensures made { self.new ≡ after_turn asked [] self.old.values self.old }
+        ensures ok { BusOk self.new }
     {
-        self.memory.fix(asked)
+        let answer = self.memory.fix(asked);
+        note_fix(&mut self.status, &asked, answer);
+        answer
     }
 }

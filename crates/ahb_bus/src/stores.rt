@@ -1,13 +1,16 @@
-ghost use Rattle.std.specs.Prelude.{◌≡◌, ◌%◌, ◌^◌, ◌*◌, ◌<◌, ◌||◌, ◌==◌, ◌++◌, [], ◌∷◌, true, length, IsTrue, if◌then◌else◌};
+ghost use Rattle.std.specs.Prelude.{◌≡◌, ◌%◌, ◌^◌, ◌*◌, ◌<◌, ◌||◌, ◌==◌, ◌++◌, [], ◌∷◌, true, false, length, IsTrue, if◌then◌else◌};
 ghost use Rattle.order_log.specs.LogState.{IsLogEntry};
 ghost use Rattle.bus_memory.specs.MemoryState.{store_answer, read_answer};
 ghost use Rattle.lf_model.specs.Bus.Words.{word_of};
 ghost use Rattle.lf_model.specs.Promise.Regular.{is_length};
-ghost use Rattle.lf_model.specs.Start.{is_in_ram};
-ghost use Rattle.ahb_bus.specs.Asks.{IsCoreTurn, HasEntryLeft};
-ghost use Rattle.ahb_bus.specs.BusState.{ram_of, memory_of, store_entry, atomic_entry, part_of, word_of_answer, stored_by, exchanged_by};
+ghost use Rattle.lf_model.specs.declared.bus.TurnKind.TheVariants.{Store};
+ghost use Rattle.lf_model.specs.Start.{is_in_ram, touches_text};
+ghost use Rattle.ahb_bus.specs.Asks.{IsCoreTurn, HasEntryLeft, IsCauseOf};
+ghost use Rattle.ahb_bus.specs.BusOk.{BusOk};
+ghost use Rattle.ahb_bus.specs.BusState.{memory_of, store_entry, atomic_entry, part_of, word_of_answer, stored_by, exchanged_by};
 
 use crate::bus::Bus;
+use crate::noting::{note_atomic, note_store};
 use crate::record::Who;
 use crate::transfer::asked;
 use bus_memory::Got;
@@ -80,18 +83,22 @@ impl Bus {
         requires begun { self.old.begun ≡ true }
         requires turn { IsCoreTurn w self.old }
         requires entry { HasEntryLeft w self.old }
+        requires cause { IsCauseOf Store why }
         requires length { is_length p.now.len ≡ true }
-        requires in_ram { IsTrue (is_in_ram (ram_of self.old) p.now.addr p.now.len) }
+        requires in_ram { IsTrue (is_in_ram (self.old.setup.config.ram) p.now.addr p.now.len) }
         requires aligned { p.now.addr % p.now.len ≡ 0 }
         requires value { p.now.value < 2 ^ (8 * p.now.len) }
+        requires text { touches_text self.old.setup.image.text p.now.addr p.now.len ≡ false }
         ensures answer { result ≡ store_answer (memory_of self.old) p.now.addr p.now.len }
         ensures made { self.new ≡ stored_by w why p.now self.old }
+        ensures ok { BusOk self.new }
     {
         let made = Transfer {
             len: p.len,
             ..asked(self.memory.turns(), w, TurnKind::Store, why, p.addr)
         };
         let answer = self.memory.store(made, p.value);
+        note_store(&mut self.status, &made, &answer);
         enter(&mut self.log, entry_of_store(w, p), answer.is_ok());
         answer
     }
@@ -107,17 +114,20 @@ impl Bus {
         requires turn { IsCoreTurn w self.old }
         requires entry { HasEntryLeft w self.old }
         requires length { IsTrue (p.now.len == 1 || p.now.len == 4) }
-        requires in_ram { IsTrue (is_in_ram (ram_of self.old) p.now.addr p.now.len) }
+        requires in_ram { IsTrue (is_in_ram (self.old.setup.config.ram) p.now.addr p.now.len) }
         requires aligned { p.now.addr % p.now.len ≡ 0 }
         requires value { p.now.value < 2 ^ (8 * p.now.len) }
+        requires text { touches_text self.old.setup.image.text p.now.addr p.now.len ≡ false }
         ensures answer { result ≡ read_answer (memory_of self.old) (word_of p.now.addr) }
         ensures made { self.new ≡ exchanged_by w p.now self.old }
+        ensures ok { BusOk self.new }
     {
         let made = Transfer {
             len: p.len,
             ..asked(self.memory.turns(), w, TurnKind::Atomic, Why::None, p.addr)
         };
         let answer = self.memory.exchange(made, p.value as u32);
+        note_atomic(&mut self.status, &made, &answer);
         let word = word_read(&answer);
         enter(&mut self.log, entry_of_atomic(w, p, word), answer.is_ok());
         answer

@@ -12,7 +12,7 @@ use Rattle.lf_model.specs.declared.bus.Transfer.{Transfer}
 use Rattle.lf_model.specs.declared.bus.TurnKind.{TurnKind}
 use Rattle.lf_model.specs.declared.bus.TurnKind.TheVariants.{Fetch, Load, Store, Atomic, Snoop, Look, Fix}
 use Rattle.bus_memory.specs.MemoryState.{reads_line}
-use Rattle.bus_memory.proofs.ReadLemmas.{IsWordAt}
+use Rattle.bus_memory.specs.Followed.{IsWordAt}
 use Rattle.ram_words.specs.Ram.{place_of}
 
 -- the words that each kind reads

@@ -240,12 +240,12 @@ next_to_come script count turn hs run s more ascends of came place lt = elim (ca
 
 -- ---- the next turn
 
-came_later : (turn place : ℕ) (flip : Option Flip) → CameBefore turn place flip → CameBefore (turn + 1) place flip
-came_later turn place None came = came
-came_later turn place (Some (Mem t addr bit)) came = (omega (arith, came.0), came.1)
-came_later turn place (Some (Reg core step cell bit)) came = came
-came_later turn place (Some (Tag core step fetch way set byte bit)) came = came
-came_later turn place (Some (Line core step fetch way set byte bit)) came = came
+pub came_later : (early turn place : ℕ) (flip : Option Flip) → early ≤ turn → CameBefore early place flip → CameBefore turn place flip
+came_later early turn place None le came = came
+came_later early turn place (Some (Mem t addr bit)) le came = (omega (arith, le, came.0), came.1)
+came_later early turn place (Some (Reg core step cell bit)) le came = came
+came_later early turn place (Some (Tag core step fetch way set byte bit)) le came = came
+came_later early turn place (Some (Line core step fetch way set byte bit)) le came = came
 
 word_is : (a b : ℕ) → targets.Word a ≡ targets.Word b → a ≡ b
 word_is a b e = cc
@@ -264,7 +264,7 @@ pub came_next : (script : List Flip) (count turn : ℕ) (hs : List (List Moment)
     → Came script (turn + 1) (fold with_strike hs run)
 came_next script count turn hs run of came i place lt struck =
     let within : place < length hs = omega (arith, lt, length_strikes run hs) in
-    ⊎_elim (λ old. came_later turn place (slice_get script i) (came i place within old)) (λ now. came_due script count turn i place run of now)
+    ⊎_elim (λ old. came_later turn (turn + 1) place (slice_get script i) (omega arith) (came i place within old)) (λ now. came_due script count turn i place run of now)
     (strikes_struck i place run hs within struck)
 
 -- nothing comes where no flip strikes

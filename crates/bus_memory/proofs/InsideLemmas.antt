@@ -21,6 +21,7 @@ use Rattle.lf_model.specs.declared.bus.Line.{Line}
 use Rattle.lf_model.specs.declared.bus.Transfer.{Transfer}
 use Rattle.lf_model.specs.declared.bus.TurnKind.{TurnKind}
 use Rattle.lf_model.specs.declared.bus.TurnKind.TheVariants.{Fetch, Load, Store, Atomic, Snoop, Look, Fix}
+use Rattle.bus_memory.specs.Followed.{IsWordAt}
 use Rattle.bus_memory.specs.Inside.{seen, IsBusMemory}
 use Rattle.bus_memory.specs.Kept.{IsKept}
 use Rattle.bus_memory.specs.MemoryState.{MemoryState, words_at, met, read_answer, store_answer, line_shown, word_shown, value_shown, fix_answer, is_bad_at, syndrome_at, made, merged_in, reads_line}
@@ -35,7 +36,7 @@ use Rattle.lf_model.specs.declared.setup.Setup.{Setup}
 use Rattle.std.proofs.lemmas.List.FromFn.{length-map-range_with_len}
 use Rattle.lf_model.specs.Start.{word_at as word_at_image}
 use Rattle.bus_memory.proofs.PlaceLemmas.{place_of-word}
-use Rattle.bus_memory.proofs.ReadLemmas.{IsWordAt, standing_same, syndrome_same, bad_same, fixed_same}
+use Rattle.bus_memory.proofs.ReadLemmas.{standing_same, syndrome_same, bad_same, fixed_same}
 use Rattle.bus_memory.proofs.WriteLemmas.{Writes, writes_word, written_whole, touches_own, touches_no_other}
 use Rattle.ram_words.specs.Parts.{is_part, merged}
 use Rattle.ram_words.specs.Ram.{place_of}
@@ -195,6 +196,8 @@ module _ (old : Inside) (is : IsBusMemory old) where
               room = rw reserved is.room;
               within = omega (arith, long, room, reserved);
               flips = is.flips;
+              ram = is.ram ∙ sym (ap (λ (m : Words). length m.histories) written ∙ writes.long);
+              fates = is.fates;
             }
 
         pub closed_seen : (values_are : List ℕ) → values ≡ values_are

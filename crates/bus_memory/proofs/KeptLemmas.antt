@@ -5,7 +5,7 @@ use Rattle.std.specs.List.{AllByRecursion, list_any}
 use Rattle.std.proofs.lemmas.Bool.{cases_eq, false≢true, eq-eqb}
 use Rattle.std.proofs.lemmas.List.{length-append, take_all, take-append-le}
 use Rattle.std.proofs.lemmas.List.Folds.{list_any-append}
-use Rattle.coded_words.specs.Past.{past_at}
+use Rattle.coded_words.proofs.PastLemmas.{past_before, past_last}
 use Rattle.coded_words.specs.Words.{Words, ended}
 use Rattle.flip_ledger.proofs.PlanLemmas.{strikes_numbered}
 use Rattle.flip_ledger.specs.Plan.{IsPlanned, due_at, strikes_of}
@@ -23,7 +23,7 @@ use Rattle.lf_model.specs.declared.flip.Flip.TheVariants.{Mem, Reg, Tag, Line}
 use Rattle.bus_memory.specs.Followed.{IsShown, Follows}
 use Rattle.bus_memory.specs.Kept.{turns_struck, IsKept}
 use Rattle.bus_memory.specs.MemoryState.{words_between, words_at}
-use Rattle.bus_memory.specs.Strikes.{with_strike, AimsAt, IsCovered}
+use Rattle.bus_memory.specs.Strikes.{with_strike, AimsAt, IsCovered, Came}
 use Rattle.bus_memory.proofs.BeginLemmas.{covered_map, covered_begun, due, begun_follows, length_strikes, due_of_script, came_next, came_same}
 use Rattle.bus_memory.proofs.HistoryLemmas.{words_push, answers_push, words_between_turns, words_in_turn}
 use Rattle.bus_memory.proofs.WriteLemmas.{word_after, Writes}
@@ -65,7 +65,7 @@ has_word words a = by (list_any (is_at a) words) refl
         ∙ ap (λ (b : Bool). list_any (is_at a) words || (b || false)) (eq-eqb a a refl)
         ∙ or_true (list_any (is_at a) words)
 
-covered_start : (flips : List Flip) (words : List Word) → AllByRecursion (IsCovered (fold with_struck words flips)) flips
+pub covered_start : (flips : List Flip) (words : List Word) → AllByRecursion (IsCovered (fold with_struck words flips)) flips
 covered_start [] words = tt
 covered_start (Mem turn a bit ∷ flips) words = (kept_flips a flips (with_word words a) (has_word words a), covered_start flips (with_word words a))
 covered_start (Reg core step cell bit ∷ flips) words = (tt, covered_start flips words)
@@ -78,7 +78,7 @@ nothing_at zero place = refl
 nothing_at (suc count) zero = refl
 nothing_at (suc count) (suc place) = nothing_at count place
 
-length_nothing : (count : ℕ) → length (replicate {A = List Moment} count []) ≡ count
+pub length_nothing : (count : ℕ) → length (replicate {A = List Moment} count []) ≡ count
 length_nothing zero = refl
 length_nothing (suc count) = ap suc (length_nothing count)
 
@@ -154,19 +154,10 @@ kept_begun script ts memory plan plan' kept planned =
           (rw turn at kept.came);
       answered = kept.answered;
       past = kept.past;
-      passed = kept.passed;
+      passed = λ t lt. rw long (kept.passed t lt);
     })
 
 -- ---- its transfer is made
-
-past_before : (past : List (List (List Moment))) (hs : List (List Moment)) (t : ℕ) → t < length past → past_at t (past ++ hs ∷ []) ≡ past_at t past
-past_before [] hs t lt = absurd (omega arith)
-past_before (p ∷ past) hs zero lt = refl
-past_before (p ∷ past) hs (suc t) lt = past_before past hs t (omega (arith, lt))
-
-past_last : (past : List (List (List Moment))) (hs : List (List Moment)) → past_at (length past) (past ++ hs ∷ []) ≡ hs
-past_last [] hs = refl
-past_last (p ∷ past) hs = past_last past hs
 
 pub kept_made : (script : List Flip) (ts : List Transfer) (memory : Words) (plan : List Strike) (t : Transfer) (values : List ℕ) (hs : List (List Moment))
     → IsKept script ts true memory plan → length values ≡ length memory.values → Writes t memory.histories hs
@@ -178,6 +169,7 @@ kept_made script ts memory plan t values hs kept same writes =
     let long : length (ts ++ made ∷ []) ≡ length ts + 1 = length-append ts (made ∷ []) in
     let turns : turns_struck (length (ts ++ made ∷ [])) false ≡ turns_struck (length ts) true = omega (arith, long) in
     let now : Follows (words_between script (ts ++ made ∷ [])) hs = rw after (writes.follows (words_at script ts true) kept.follows) in
+    let came_now : Came script (length ts + 1) hs = came_same script (length ts + 1) memory.histories hs writes.long writes.struck kept.came in
     record {
       values = same ∙ kept.values ∙ sym writes.long;
       flips = kept.flips;
@@ -186,16 +178,20 @@ kept_made script ts memory plan t values hs kept same writes =
           (covered_map (word_after t) (λ w. refl) (words_at script ts true) script kept.covered);
       follows = rw (words_between_turns script (ts ++ made ∷ [])) now;
       planned = rw turns kept.planned;
-      came = rw turns (came_same script (turns_struck (length ts) true) memory.histories hs writes.long writes.struck kept.came);
+      came = rw turns came_now;
       answered =
           answers_push script [] ts made
           ∙ ap₂ (λ (answers : List Transfer) (ws : List Word). answers ++ with_answer ws made ∷ []) kept.answered (sym met);
       past = length-append memory.past (hs ∷ []) ∙ ap (λ (n : ℕ). n + 1) kept.past ∙ sym long;
       passed = λ u lt. elim (cases_eq u (length ts)) [
         | inl last ↦
-            rw (last, take_all (length ts + 1) (ts ++ made ∷ []) (omega (arith, long)), ← kept.past, past_last memory.past hs) now
+            rw (last, take_all (length ts + 1) (ts ++ made ∷ []) (omega (arith, long)), ← kept.past, past_last memory.past hs) (record {
+              long = refl;
+              follows = now;
+              came = rw kept.past came_now;
+            })
         | inr other ↦
             let early : u < length ts = omega (arith, lt, other, long) in
-            rw (take-append-le (u + 1) ts (made ∷ []) (omega (arith, early)), past_before memory.past hs u (omega (arith, early, kept.past))) (kept.passed u early)
+            rw (take-append-le (u + 1) ts (made ∷ []) (omega (arith, early)), past_before memory.past hs u (omega (arith, early, kept.past)), writes.long) (kept.passed u early)
       ];
     }

@@ -11,3 +11,7 @@ pub mod NamedWord
 pub mod DueLemmas
 pub mod InsideLemmas
 pub mod NamedFollows
+pub mod NamedArray
+pub mod NameLemmas
+pub mod NamesUnseen
+pub mod FateLemmas

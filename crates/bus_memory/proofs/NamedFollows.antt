@@ -1,7 +1,7 @@
 -- The array follows the definitions' words with one name more, where its word was named as that turn ended.
-use Rattle.std.proofs.Common.{◌≡◌, ◌≢◌, ℕ, zero, suc, ◌+◌, ◌-◌, ◌<◌, ◌≤◌, ◌%◌, Bool, true, false, ◌||◌, ◌&&◌, nat_eq, List, [], ◌∷◌, ◌++◌, length, map, take, Option, Some, None, refl, sym, ap, ap₂, ◌∙◌, subst, inl, inr, arith}
+use Rattle.std.proofs.Common.{◌≡◌, ◌≢◌, ℕ, zero, suc, ◌+◌, ◌-◌, ◌<◌, ◌≤◌, ◌%◌, Bool, false, ◌||◌, ◌&&◌, nat_eq, List, [], ◌∷◌, ◌++◌, length, map, take, Some, refl, sym, ap, ap₂, ◌∙◌, subst, inl, inr, arith}
 use Rattle.std.specs.List.{AllByRecursion, list_any}
-use Rattle.std.proofs.lemmas.Bool.{cases_eq, ne_eqb, or_parts, false≢true}
+use Rattle.std.proofs.lemmas.Bool.{cases_eq, ne_eqb, or_parts}
 use Rattle.std.proofs.lemmas.List.{get_or-set_same, get_or-set_other, length-set}
 use Rattle.coded_words.specs.Past.{named_behind}
 use Rattle.flip_ledger.specs.Follows.{has_struck}
@@ -16,14 +16,15 @@ use Rattle.lf_model.specs.declared.flip.Flip.{Flip}
 use Rattle.lf_model.specs.declared.trace.Word2.{Word2}
 use Rattle.bus_memory.specs.Followed.{address_of, IsUnstruck, IsShown, Follows}
 use Rattle.bus_memory.proofs.FollowLemmas.{is_at_map}
-use Rattle.bus_memory.proofs.NamedWord.{addr_run, names_same, run_same, run_named}
-use Rattle.bus_memory.proofs.PlaceLemmas.{place_back, address_back}
+use Rattle.bus_memory.proofs.NameLemmas.{names_same}
+use Rattle.bus_memory.proofs.NamedWord.{addr_run, run_same, run_named}
+use Rattle.bus_memory.proofs.PlaceLemmas.{address_back}
 use Rattle.bus_memory.proofs.WordRun.{run_one, words_run}
 use Rattle.ram_words.specs.Ram.{place_of}
 
 -- ---- a name strikes nothing
 
-struck_take : (i n : ℕ) (h : List Moment) → has_struck i h ≡ false → has_struck i (take n h) ≡ false
+pub struck_take : (i n : ℕ) (h : List Moment) → has_struck i h ≡ false → has_struck i (take n h) ≡ false
 struck_take i zero h none = refl
 struck_take i (suc n) [] none = refl
 struck_take i (suc n) (Struck number bit ∷ h) none =
@@ -33,7 +34,7 @@ struck_take i (suc n) (Written how ∷ h) none = struck_take i n h none
 struck_take i (suc n) (Found ∷ h) none = struck_take i n h none
 struck_take i (suc n) (Named ∷ h) none = struck_take i n h none
 
-struck_append : (i : ℕ) (xs ys : List Moment) → has_struck i xs ≡ false → has_struck i ys ≡ false → has_struck i (xs ++ ys) ≡ false
+pub struck_append : (i : ℕ) (xs ys : List Moment) → has_struck i xs ≡ false → has_struck i ys ≡ false → has_struck i (xs ++ ys) ≡ false
 struck_append i [] ys none more = more
 struck_append i (Struck number bit ∷ xs) ys none more =
     let parts = or_parts (nat_eq number i) (has_struck i xs) none in
@@ -132,7 +133,7 @@ module _ (script : List Flip) (named : List Word2) (name : Word2) (turn : ℕ) (
             get_or-set_other hs (place_of name.addr) (place_of w.addr) (named_behind (history_at (place_of name.addr) past) (history_at (place_of name.addr) hs)) [] apart
             ∙ ap (λ (a : ℕ). history_at (place_of a) hs) (sym (addr_run script named 0 ts w))
             ∙ is.history
-            ∙ sym (ap (λ (v : Word). v.history) (run_same script named name ts w (λ u lt. names_same script named name u w.addr (ap (λ (b : Bool). b && is_turn u name.value) (ne_eqb name.addr w.addr other)))))
+            ∙ sym (ap (λ (v : Word). v.history) (run_same script named name ts w (λ u lt. names_same named name u w.addr (ap (λ (b : Bool). b && is_turn u name.value) (ne_eqb name.addr w.addr other)))))
       ] in
       let stays : (p : ℕ) → p < length hs → IsUnstruck (history_at p hs) → (p < length past → IsUnstruck (history_at p past))
       → IsUnstruck (history_at p (befalls (named_behind (history_at (place_of name.addr) past)) (place_of name.addr) hs)) =

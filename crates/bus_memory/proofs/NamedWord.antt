@@ -1,7 +1,5 @@
 -- A word over the transfers, with one name more: the name stands in its history where the turn ended, and nothing else is different.
-use Rattle.std.proofs.Common.{◌≡◌, ◌≢◌, ℕ, suc, ◌+◌, ◌<◌, ◌≤◌, Bool, true, false, ◌||◌, ◌&&◌, cond, nat_eq, nat_lt, List, [], ◌∷◌, ◌++◌, length, Option, Some, None, refl, sym, ap, ap₂, ◌∙◌, arith}
-use Rattle.std.proofs.lemmas.Bool.{eq-eqb, ne_eqb}
-use Rattle.std.proofs.lemmas.List.Folds.{list_any-append}
+use Rattle.std.proofs.Common.{◌≡◌, ℕ, suc, ◌+◌, ◌<◌, ◌≤◌, Bool, true, false, ◌&&◌, cond, nat_eq, nat_lt, List, [], ◌∷◌, ◌++◌, length, Option, Some, None, refl, sym, ap, ap₂, ◌∙◌, arith}
 use Rattle.coded_words.proofs.PastLemmas.{behind_is}
 use Rattle.coded_words.specs.Past.{named_behind}
 use Rattle.lf_model.specs.Bus.Words.{Word, struck_word, touches_word, write_of, with_write, write_by}
@@ -9,7 +7,7 @@ use Rattle.lf_model.specs.Course.Syndromes.{has_address}
 use Rattle.lf_model.specs.Flips.{How, Moment, Standing, standing, struck, turned, word_bits, word_budget, is_bad_word, is_fixed_word}
 use Rattle.lf_model.specs.Flips.How.{Whole, ByPartStore, ByAtomic, ByFix}
 use Rattle.lf_model.specs.Flips.Moment.{Struck, Written, Found, Named}
-use Rattle.lf_model.specs.Records.BusMemory.{is_turn, names_word, with_names}
+use Rattle.lf_model.specs.Records.BusMemory.{names_word, with_names}
 use Rattle.lf_model.specs.Strikes.{numbered_flips}
 use Rattle.lf_model.specs.declared.bus.Transfer.{Transfer}
 use Rattle.lf_model.specs.declared.bus.TurnKind.{TurnKind}
@@ -17,6 +15,7 @@ use Rattle.lf_model.specs.declared.bus.TurnKind.TheVariants.{Fetch, Load, Store,
 use Rattle.lf_model.specs.declared.flip.Flip.{Flip}
 use Rattle.lf_model.specs.declared.flip.Flip.TheVariants.{Mem, Reg, Tag, Line}
 use Rattle.lf_model.specs.declared.trace.Word2.{Word2}
+use Rattle.bus_memory.proofs.NameLemmas.{other_turn, names_same, names_now}
 use Rattle.bus_memory.proofs.WordRun.{strike_one, strikes_one, turn_one, run_one}
 use Rattle.bus_memory.proofs.WriteLemmas.{word_after}
 
@@ -35,17 +34,15 @@ pub record Differ (h a b : List Moment) : Type 0 where
   pub without : a ≡ since ++ h
   pub with : b ≡ since ++ Named ∷ h
 
-module _ {h a b : List Moment} (differ : Differ h a b) where
-  same_standing : standing word_budget b ≡ standing word_budget a
-  same_standing = ap (standing word_budget) differ.with ∙ standing_since differ.since h word_budget ∙ sym (ap (standing word_budget) differ.without)
-
+-- what is written goes by the flips that stand
+module _ (a b : List Moment) (standing_is : standing word_budget b ≡ standing word_budget a) where
   same_bad : is_bad_word b ≡ is_bad_word a
-  same_bad = ap (λ (flips : List Standing). nat_eq (length (turned word_bits flips)) 2) same_standing
+  same_bad = ap (λ (flips : List Standing). nat_eq (length (turned word_bits flips)) 2) standing_is
 
   same_fixed : is_fixed_word b ≡ is_fixed_word a
-  same_fixed = ap (λ (flips : List Standing). nat_eq (length (turned word_bits flips)) 1) same_standing
+  same_fixed = ap (λ (flips : List Standing). nat_eq (length (turned word_bits flips)) 1) standing_is
 
-  same_write : (len : ℕ) (kind : TurnKind) → write_of len b kind ≡ write_of len a kind
+  pub same_write : (len : ℕ) (kind : TurnKind) → write_of len b kind ≡ write_of len a kind
   same_write len Fetch = refl
   same_write len Load = refl
   same_write len Store = ap (λ (bad : Bool). cond (nat_lt len 4) (cond bad None (Some ByPartStore)) (Some Whole)) same_bad
@@ -53,6 +50,10 @@ module _ {h a b : List Moment} (differ : Differ h a b) where
   same_write len Snoop = refl
   same_write len Look = refl
   same_write len Fix = ap (λ (fixed : Bool). cond fixed (Some ByFix) None) same_fixed
+
+module _ {h a b : List Moment} (differ : Differ h a b) where
+  same_standing : standing word_budget b ≡ standing word_budget a
+  same_standing = ap (standing word_budget) differ.with ∙ standing_since differ.since h word_budget ∙ sym (ap (standing word_budget) differ.without)
 
   -- one moment more of both
   more : (m : Moment) → Differ h (m ∷ a) (m ∷ b)
@@ -97,7 +98,7 @@ strikes_differ h turn (flip ∷ flips) w v are =
 
 write_same : (h : List Moment) (t : Transfer) (w v : Word) → Words h w v → write_by t v ≡ write_by t w
 write_same h t w v are =
-    ap₂ (λ (b : Bool) (how : Option How). cond (has_address t && b) how None) (ap (λ (a : ℕ). touches_word t.addr t.len a t.kind) are.addr) (same_write are.differ t.len t.kind)
+    ap₂ (λ (b : Bool) (how : Option How). cond (has_address t && b) how None) (ap (λ (a : ℕ). touches_word t.addr t.len a t.kind) are.addr) (same_write w.history v.history (same_standing are.differ) t.len t.kind)
 
 after_differ : (h : List Moment) (t : Transfer) (w v : Word) → Words h w v → Words h (word_after t w) (word_after t v)
 after_differ h t w v are = record {
@@ -182,18 +183,6 @@ module _ (script : List Flip) where
     abbrev more_named : List Word2
     more_named = named ++ name ∷ []
 
-    names_more : (turn addr : ℕ) → names_word more_named turn addr ≡ (names_word named turn addr || (nat_eq name.addr addr && is_turn turn name.value || false))
-    names_more turn addr = list_any-append (λ (w : Word2). nat_eq w.addr addr && is_turn turn w.value) named (name ∷ [])
-
-    or_none : (b : Bool) → (b || false) ≡ b
-    or_none true = refl
-    or_none false = refl
-
-    -- it names no word at this turn
-    pub names_same : (turn addr : ℕ) → (nat_eq name.addr addr && is_turn turn name.value) ≡ false → names_word more_named turn addr ≡ names_word named turn addr
-    names_same turn addr not_it =
-        names_more turn addr ∙ ap (λ (b : Bool). names_word named turn addr || (b || false)) not_it ∙ or_none (names_word named turn addr)
-
     -- it names none of the turns that were made at this word
     pub run_same : (ts : List Transfer) (w : Word) → ((u : ℕ) → u < length ts → names_word more_named u w.addr ≡ names_word named u w.addr)
         → run_one script more_named 0 ts w ≡ run_one script named 0 ts w
@@ -201,34 +190,25 @@ module _ (script : List Flip) where
 
     -- it names a word at a turn at which none was
     module _ (turn : ℕ) (value : name.value ≡ Some turn) where
-      is_this : (u addr : ℕ) → name.addr ≡ addr → u ≢ turn → (nat_eq name.addr addr && is_turn u name.value) ≡ false
-      is_this u addr here other =
-          ap₂ (λ (a b : Bool). a && b) (eq-eqb name.addr addr here) (ap (is_turn u) value ∙ ne_eqb turn u (λ e. other (sym e)))
-
-      names_now : (addr : ℕ) → name.addr ≡ addr → names_word named turn addr ≡ false → names_word more_named turn addr ≡ true
-      names_now addr here none =
-          names_more turn addr
-          ∙ ap₂ (λ (a b : Bool). a || (b || false)) none (ap₂ (λ (a b : Bool). a && b) (eq-eqb name.addr addr here) (ap (is_turn turn) value ∙ eq-eqb turn turn refl))
-
       run_at : (front : List Transfer) (t : Transfer) (rest : List Transfer) (w : Word) → length front ≡ turn → name.addr ≡ w.addr → names_word named turn w.addr ≡ false
           → Words (run_one script named 0 (front ++ t ∷ []) w).history (run_one script named 0 (front ++ t ∷ rest) w) (run_one script more_named 0 (front ++ t ∷ rest) w)
       run_at front t rest w long here none =
           let before : Word = run_one script named 0 front w in
           let at : before.addr ≡ w.addr = addr_run named 0 front w in
           let same_before : run_one script more_named 0 front w ≡ before =
-          run_agree more_named named w.addr 0 front w refl (λ u from to. names_same u w.addr (is_this u w.addr here (λ e. omega (arith, to, e, long)))) in
+          run_agree more_named named w.addr 0 front w refl (λ u from to. names_same named name u w.addr (other_turn name turn u w.addr value (λ e. omega (arith, to, e, long)))) in
           let struck_ : Word = word_after t (strikes_one turn (numbered_flips script) before) in
           let there : struck_.addr ≡ w.addr = addr_strikes turn (numbered_flips script) before ∙ at in
           let without_ : turn_one script named turn t before ≡ struck_ =
           ap (λ (b : Bool). cond b (record struck_ { history = Named ∷ struck_.history }) struck_) (ap (names_word named turn) there ∙ none) in
           let with_ : turn_one script more_named turn t before ≡ record struck_ { history = Named ∷ struck_.history } =
-          ap (λ (b : Bool). cond b (record struck_ { history = Named ∷ struck_.history }) struck_) (ap (names_word more_named turn) there ∙ names_now w.addr here none) in
+          ap (λ (b : Bool). cond b (record struck_ { history = Named ∷ struck_.history }) struck_) (ap (names_word more_named turn) there ∙ names_now named name turn w.addr value here none) in
           let zero_turn : 0 + length front ≡ turn = omega (arith, long) in
           let reach : (names : List Word2) (ts : List Transfer) → run_one script names 0 (front ++ t ∷ ts) w ≡ run_one script names (turn + 1) ts (turn_one script names turn t (run_one script names 0 front w)) =
           λ names ts. run_append names 0 front (t ∷ ts) w ∙ ap (λ (n : ℕ). run_one script names (n + 1) ts (turn_one script names n t (run_one script names 0 front w))) zero_turn in
           let later : run_one script more_named (turn + 1) rest (record struck_ { history = Named ∷ struck_.history }) ≡ run_one script named (turn + 1) rest (record struck_ { history = Named ∷ struck_.history }) =
           run_agree more_named named w.addr (turn + 1) rest (record struck_ { history = Named ∷ struck_.history }) there
-          (λ u from to. names_same u w.addr (is_this u w.addr here (λ e. omega (arith, from, e)))) in
+          (λ u from to. names_same named name u w.addr (other_turn name turn u w.addr value (λ e. omega (arith, from, e)))) in
           let both : Words struck_.history (run_one script named (turn + 1) rest struck_) (run_one script named (turn + 1) rest (record struck_ { history = Named ∷ struck_.history })) =
           run_differ struck_.history named (turn + 1) rest struck_ (record struck_ { history = Named ∷ struck_.history })
           (record { addr = refl; differ = record { since = []; without = refl; with = refl } }) in

@@ -1,5 +1,5 @@
 -- What a word of the array reads as is what the definitions' word does: the flips that stand in both are the same.
-use Rattle.std.proofs.Common.{◌≡◌, ℕ, ◌<◌, ◌≤◌, ◌%◌, Bool, true, false, ◌||◌, nat_eq, List, [], ◌∷◌, length, Some, cond, refl, sym, ap, ◌∙◌, inl, inr}
+use Rattle.std.proofs.Common.{◌≡◌, ℕ, Bool, true, false, ◌||◌, nat_eq, List, [], ◌∷◌, length, Some, cond, refl, sym, ap, ◌∙◌, inl, inr}
 use Rattle.std.specs.Prelude.{find}
 use Rattle.std.specs.Option.{option_map_or}
 use Rattle.std.specs.List.{AllByRecursion, list_any}
@@ -9,9 +9,8 @@ use Rattle.lf_model.specs.Bus.Words.{Word, is_at, history_of, word_history}
 use Rattle.lf_model.specs.Caches.Slot.{history_at}
 use Rattle.lf_model.specs.Flips.{Moment, Standing, standing, turned, word_bits, word_budget, is_fixed_word, is_bad_word, syndrome}
 use Rattle.lf_model.specs.Flips.Moment.{Struck, Written, Found, Named}
-use Rattle.lf_model.specs.Start.{ram_first}
 use Rattle.lf_num.specs.Columns.{columns_sum}
-use Rattle.bus_memory.specs.Followed.{IsUnstruck, IsShown, Follows}
+use Rattle.bus_memory.specs.Followed.{IsUnstruck, IsShown, Follows, IsWordAt}
 use Rattle.bus_memory.proofs.PlaceLemmas.{address_back}
 use Rattle.ram_words.specs.Ram.{place_of}
 
@@ -42,12 +41,6 @@ absent addr [] none = refl
 absent addr (w ∷ ws) none =
     let parts = or_parts (nat_eq w.addr addr) (list_any (is_at addr) ws) none in
     ap (λ (b : Bool). option_map_or history_of (cond b (Some w) (find (is_at addr) ws)) []) parts.0 ∙ absent addr ws parts.1
-
--- an address of a word of RAM of so many words
-pub record IsWordAt (count addr : ℕ) : Type 0 where
-  pub aligned : addr % 4 ≡ 0
-  pub above : ram_first ≤ addr
-  pub within : place_of addr < count
 
 module _ (words : List Word) (hs : List (List Moment)) (addr : ℕ) (follows : Follows words hs) (at : IsWordAt (length hs) addr) where
   pub word_found : list_any (is_at addr) words ≡ true → word_history words addr ≡ history_at (place_of addr) hs

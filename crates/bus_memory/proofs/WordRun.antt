@@ -38,7 +38,7 @@ abbrev pub strikes_one : ℕ → List (ℕ × Flip) → Word → Word
 strikes_one turn [] w = w
 strikes_one turn (flip ∷ flips) w = strikes_one turn flips (strike_one turn flip.0 flip.1 w)
 
-strikes_map : (turn : ℕ) (flips : List (ℕ × Flip)) (words : List Word) → fold (strike_flip turn) words flips ≡ map (strikes_one turn flips) words
+pub strikes_map : (turn : ℕ) (flips : List (ℕ × Flip)) (words : List Word) → fold (strike_flip turn) words flips ≡ map (strikes_one turn flips) words
 strikes_map turn [] words = sym (map_same words)
 strikes_map turn (flip ∷ flips) words =
     strikes_map turn flips (strike_word turn flip.0 words flip.1)
@@ -56,7 +56,7 @@ module _ (script : List Flip) where
   run_one named turn [] w = w
   run_one named turn (t ∷ ts) w = run_one named (turn + 1) ts (turn_one named turn t w)
 
-  turn_map : (named : List Word2) (turn : ℕ) (t : Transfer) (words : List Word)
+  pub turn_map : (named : List Word2) (turn : ℕ) (t : Transfer) (words : List Word)
       → map (with_names named turn) (words_after t None (words_begun script turn words)) ≡ map (turn_one named turn t) words
   turn_map named turn t words =
       ap (λ (ws : List Word). map (with_names named turn) (map (word_after t) ws)) (strikes_map turn (numbered_flips script) words)

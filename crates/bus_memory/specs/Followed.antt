@@ -16,6 +16,12 @@ address_of place = ram_first + 4 * place
 abbrev pub IsUnstruck : List Moment → Type 0
 IsUnstruck h = (i : ℕ) → has_struck i h ≡ false
 
+-- the address of a word of an array of so many
+pub record IsWordAt (count addr : ℕ) : Type 0 where
+  pub aligned : addr % 4 ≡ 0
+  pub above : ram_first ≤ addr
+  pub within : place_of addr < count
+
 -- the array has this word, with its history
 pub record IsShown (histories : List (List Moment)) (word : Word) : Type 0 where
   pub aligned : word.addr % 4 ≡ 0

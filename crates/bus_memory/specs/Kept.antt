@@ -6,6 +6,8 @@ use Rattle.coded_words.specs.Words.{Words}
 use Rattle.flip_ledger.specs.Plan.{IsPlanned}
 use Rattle.flip_ledger.specs.declared.plan.Owner.TheVariants.{Memory}
 use Rattle.flip_ledger.specs.declared.plan.Strike.{Strike}
+use Rattle.lf_model.specs.Bus.Words.{Word}
+use Rattle.lf_model.specs.Flips.{Moment}
 use Rattle.lf_model.specs.Records.BusMemory.{memory_after}
 use Rattle.lf_model.specs.declared.bus.Transfer.{Transfer}
 use Rattle.lf_model.specs.declared.flip.Flip.{Flip}
@@ -16,6 +18,12 @@ use Rattle.bus_memory.specs.Strikes.{AimsAt, IsCovered, Came}
 -- the turns whose flips struck
 abbrev pub turns_struck : ℕ → Bool → ℕ
 turns_struck turns begun = turns + (if begun then 1 else 0)
+
+-- an array of so many words has the histories of these words, and flips of turns before this one struck it
+pub record IsArrayOf (script : List Flip) (words : List Word) (turn count : ℕ) (histories : List (List Moment)) : Type 0 where
+  pub long : length histories ≡ count
+  pub follows : Follows words histories
+  pub came : Came script turn histories
 
 pub record IsKept (script : List Flip) (transfers : List Transfer) (begun : Bool) (memory : Words) (plan : List Strike) : Type 0 where
   pub values : length memory.values ≡ length memory.histories
@@ -32,4 +40,4 @@ pub record IsKept (script : List Flip) (transfers : List Transfer) (begun : Bool
   pub answered : (memory_after script [] transfers).answers ≡ transfers
   -- the array as each turn ended
   pub past : length memory.past ≡ length transfers
-  pub passed : (t : ℕ) → t < length transfers → Follows (words_between script (take (t + 1) transfers)) (past_at t memory.past)
+  pub passed : (t : ℕ) → t < length transfers → IsArrayOf script (words_between script (take (t + 1) transfers)) (t + 1) (length memory.histories) (past_at t memory.past)

@@ -4,3 +4,5 @@ pub mod MemoryState
 pub mod Kept
 pub mod Inside
 pub mod Answers
+pub mod Names
+pub mod Named

@@ -3,12 +3,18 @@ ghost use Rattle.std.specs.List.{AllByRecursion};
 ghost use Rattle.lf_model.specs.Promise.Regular.{is_length};
 ghost use Rattle.lf_model.specs.Start.{is_in_ram};
 ghost use Rattle.lf_model.specs.Bus.Words.{word_of};
+ghost use Rattle.lf_model.specs.Ledger.FlipFate.{flip_fates};
+ghost use Rattle.lf_model.specs.Records.BusMemory.{memory_after};
+ghost use Rattle.lf_model.specs.Records.BusRecord.{no_arrays};
 ghost use Rattle.lf_model.specs.declared.bus.TurnKind.TheVariants.{Store, Atomic, Snoop, Fix};
 ghost use Rattle.ram_words.specs.Parts.{is_part};
 ghost use Rattle.ram_words.specs.Ram.{IsInRam, first_words, place_of};
 ghost use Rattle.bus_memory.specs.MemoryState.{ram_of, line_shown, value_shown, read_answer, store_answer, fix_answer, reads_line, made, merged_in, stored};
+ghost use Rattle.bus_memory.specs.Names.{names_of};
 ghost use Rattle.bus_memory.specs.Strikes.{AimsAt};
 
+use crate::names::name_all;
+use crate::record::{MemoryRecord, note_fates};
 use crate::strike::strike_due;
 use crate::transfer::{
     end_turn, syndrome_met, syndrome_of, syndrome_read, with_line, with_none, with_word,
@@ -17,7 +23,9 @@ use flip_ledger::{FlipPlan, Owner};
 use ft_memory::Memory;
 use lf_model::bus::{Bad, Line, Transfer};
 use lf_model::flip::Flips;
+use lf_model::listed::Listed;
 use lf_model::setup::Setup;
+use lf_model::trace::{Fate, Words2};
 use ram_words::{Fixed, Got};
 use std::alloc::{AllocError, Global};
 use std::marker::Model;
@@ -35,6 +43,10 @@ pub struct BusMemory {
     transfers: Vec<Transfer>,
     /// A turn is begun.
     begun: bool,
+    /// The bytes of RAM.
+    ram: u32,
+    /// Of each flip of the script its fate, late until the record is made.
+    fates: Vec<Fate>,
     /// The script, for contracts alone.
     script: Snapshot<Flips>,
 }
@@ -67,11 +79,14 @@ impl BusMemory {
         let memory = Memory::new(alloc, setup.config.ram, &setup.image, flips)?;
         let plan = FlipPlan::new(alloc, setup.flips.as_slice(), Owner::Memory)?;
         let transfers = Vec::with_capacity(alloc, room as usize)?;
+        let fates = vec![in alloc; Fate::Late; flips as usize]?;
         Ok(BusMemory {
             memory,
             plan,
             transfers,
             begun: false,
+            ram: setup.config.ram,
+            fates,
             script: Snapshot::of(&setup.flips),
         })
     }
@@ -251,5 +266,29 @@ impl BusMemory {
         ensures { result ≡ value_shown self.now addr }
     {
         self.memory.peek(addr)
+    }
+
+    /// The record after the last turn. `named` has for each core the words that its stop names, each with the number of its
+    /// transfer: a flip that stood in such a word as that turn ended is stopped. A name of any other word or turn changes nothing.
+    pub fn finish(self, named: &[Words2]) -> MemoryRecord
+        requires { self.begun ≡ false }
+        ensures transfers { result.transfers ≡ self.transfers }
+        ensures answered { (memory_after self.script (names_of named.now) self.transfers).answers ≡ self.transfers }
+        ensures fates { result.fates ≡ flip_fates self.script (memory_after self.script (names_of named.now) self.transfers).words no_arrays }
+    {
+        let BusMemory {
+            mut memory,
+            transfers,
+            ram,
+            mut fates,
+            script,
+            ..
+        } = self;
+        name_all(&mut memory, ram, &script, transfers.as_slice(), named);
+        note_fates(&mut fates, &memory, &script, transfers.as_slice());
+        MemoryRecord {
+            transfers: Listed::from_vec(transfers),
+            fates: Listed::from_vec(fates),
+        }
     }
 }

@@ -16,12 +16,12 @@ use Rattle.coded_words.specs.Past.{past_at, GoesOn, named_behind, named_since}
 
 -- ---- a turn ends
 
-past_before : (past : List (List (List Moment))) (hs : List (List Moment)) (t : ℕ) → t < length past → past_at t (past ++ hs ∷ []) ≡ past_at t past
+pub past_before : (past : List (List (List Moment))) (hs : List (List Moment)) (t : ℕ) → t < length past → past_at t (past ++ hs ∷ []) ≡ past_at t past
 past_before [] hs t lt = absurd (omega arith)
 past_before (p ∷ past) hs zero lt = refl
 past_before (p ∷ past) hs (suc t) lt = past_before past hs t (omega (arith, lt))
 
-past_last : (past : List (List (List Moment))) (hs : List (List Moment)) → past_at (length past) (past ++ hs ∷ []) ≡ hs
+pub past_last : (past : List (List (List Moment))) (hs : List (List Moment)) → past_at (length past) (past ++ hs ∷ []) ≡ hs
 past_last [] hs = refl
 past_last (p ∷ past) hs = past_last past hs
 
@@ -78,19 +78,19 @@ behind_is earlier h on =
     ap (named_behind earlier) on.is ∙ ap (λ (front : List Moment). front ++ Named ∷ earlier) (take_since on.since earlier)
 
 -- the past at a time, after the naming
-since_before : (f : List (List Moment) → List (List Moment)) (past : List (List (List Moment))) (turn t : ℕ) → t < turn → turn < length past → past_at t (take turn past ++ map f (drop turn past)) ≡ past_at t past
+pub since_before : (f : List (List Moment) → List (List Moment)) (past : List (List (List Moment))) (turn t : ℕ) → t < turn → turn < length past → past_at t (take turn past ++ map f (drop turn past)) ≡ past_at t past
 since_before f [] turn t lt within = absurd (omega arith)
 since_before f (p ∷ past) zero t lt within = absurd (omega arith)
 since_before f (p ∷ past) (suc turn) zero lt within = refl
 since_before f (p ∷ past) (suc turn) (suc t) lt within = since_before f past turn t (omega (arith, lt)) (omega (arith, within))
 
-since_then : (f : List (List Moment) → List (List Moment)) (past : List (List (List Moment))) (turn t : ℕ) → turn ≤ t → t < length past → past_at t (take turn past ++ map f (drop turn past)) ≡ f (past_at t past)
+pub since_then : (f : List (List Moment) → List (List Moment)) (past : List (List (List Moment))) (turn t : ℕ) → turn ≤ t → t < length past → past_at t (take turn past ++ map f (drop turn past)) ≡ f (past_at t past)
 since_then f [] turn t le within = absurd (omega arith)
 since_then f (p ∷ past) zero t le within = get_or-map f (p ∷ past) t [] [] within
 since_then f (p ∷ past) (suc turn) zero le within = absurd (omega arith)
 since_then f (p ∷ past) (suc turn) (suc t) le within = since_then f past turn t (omega (arith, le)) (omega (arith, within))
 
-length_since : (f : List (List Moment) → List (List Moment)) (past : List (List (List Moment))) (turn : ℕ) → length (take turn past ++ map f (drop turn past)) ≡ length past
+pub length_since : (f : List (List Moment) → List (List Moment)) (past : List (List (List Moment))) (turn : ℕ) → length (take turn past ++ map f (drop turn past)) ≡ length past
 length_since f [] zero = refl
 length_since f [] (suc turn) = refl
 length_since f (p ∷ past) zero = length-map (p ∷ past) f

@@ -1,4 +1,8 @@
-use Rattle.std.proofs.Common.{◌≡◌, false, Bool, length, ap, ◌∙◌, subst, arith}
+use Rattle.std.proofs.Common.{◌≡◌, false, Bool, length, ap, sym, ◌∙◌, subst, arith}
+use Rattle.coded_words.specs.Words.{Words}
+use Rattle.flip_ledger.specs.Plan.{due_at, strikes_of}
+use Rattle.flip_ledger.specs.declared.plan.Owner.TheVariants.{Memory}
+use Rattle.bus_memory.proofs.BeginLemmas.{length_strikes}
 use Rattle.bus_memory.specs.Kept.{IsKept}
 use Rattle.bus_memory.specs.MemoryState.{MemoryState}
 use Rattle.bus_memory.proofs.KeptLemmas.{kept_begun}
@@ -18,4 +22,6 @@ invariant_of-self c =
       room = is.room;
       within = is.within;
       flips = is.flips;
+      ram = is.ram ∙ sym (ap (λ (m : Words). length m.histories) struck ∙ length_strikes (due_at (length old.transfers.items) (strikes_of Memory old.script.value)) old.memory.histories);
+      fates = is.fates;
     }

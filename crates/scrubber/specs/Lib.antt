@@ -1,0 +1,2 @@
+pub mod WalkState
+pub mod Inside
