@@ -1,8 +1,9 @@
 mod AtomicLemmas
-mod CellLemmas
 mod CheckLemmas
 mod CodeLemmas
 mod SizeLemmas
+mod JoinLemmas
 mod LoadLemmas
+mod ReadLemmas
 mod TrapLemmas
 mod TurnLemmas
