@@ -90,7 +90,7 @@ ends_mem s Lduh addr rd = ends_load s _ refl
 ends_mem s Ldsb addr rd = ends_load s _ refl
 ends_mem s Ldsh addr rd = ends_load s _ refl
 
-control_effect-access : (name : MemName) (rd : ℕ) (s : State) → (control_effect name rd s).access ≡ None
+pub control_effect-access : (name : MemName) (rd : ℕ) (s : State) → (control_effect name rd s).access ≡ None
 control_effect-access Ld rd s = refl
 control_effect-access St rd s = refl
 control_effect-access Ldd rd s = refl
@@ -255,7 +255,7 @@ same_run s t p q states ops = rw states (rw ops refl)
 
 pub finished : (i : Instr) (parts : Parts) (addr len new rd got : ℕ) (old next : Arch) (before after : Seen)
     → state_of next after ≡ advanced (with_register rd got (state_of old before)) → after.ops ≡ before.ops → after.site ≡ before.site
-    → Finishes i parts (Atomic addr len new rd) got old next before after
+    → Finishes i parts (atomic_access addr len new rd) got old next before after
 finished i parts addr len new rd got old next before after state ops site is =
     let s = state_of old before in
     let e = effect before.site s i in
@@ -268,7 +268,7 @@ finished i parts addr len new rd got old next before after state ops site is =
     ∙ ap (λ (x : Option Access). with_access before.site.core got x before.ops) (sym access))
 
 pub written : {X : Type 0} (touch : X → Touch → X) (i : Instr) (parts : Parts) (addr len new rd : ℕ) (old : Arch) (before : Seen) (x y : X)
-    → y ≡ fold touch x (write_touches (cell_written (state_of old before) rd)) → WritesAtEnd touch i parts (Atomic addr len new rd) old before x y
+    → y ≡ fold touch x (write_touches (cell_written (state_of old before) rd)) → WritesAtEnd touch i parts (atomic_access addr len new rd) old before x y
 written touch i parts addr len new rd old before x y ends is =
     let s = state_of old before in
     let e = effect before.site s i in

@@ -23,7 +23,7 @@ use Rattle.lf_model.specs.declared.touch.Touch.{Touch}
 use Rattle.v8_exec.specs.Reading.{IsAccess}
 use Rattle.v8_exec.specs.declared.operands.Request.{Request}
 
--- these registers are read, and make this number, or the first that reads bad is told
+-- these registers are read, and make this number, or the first that reads bad is answered
 abbrev pub ReadsNumber : Parts → State → List ℕ → ℕ → Result ℕ RegBad → Type 0
 ReadsNumber parts s registers number (Ok value) = (value ≡ number) × (first_bad parts s.ctl.cwp registers ≡ None)
 ReadsNumber parts s registers number (Err bad) = first_bad parts s.ctl.cwp registers ≡ Some bad
@@ -115,19 +115,15 @@ IsAccessing (Flush rs1 src) = ⊥
 IsAccessing (Save rd rs1 src) = ⊥
 IsAccessing (Restore rd rs1 src) = ⊥
 
--- LDSTUB or SWAP, which needed this turn: once its operation is recorded, it is performed with the number that the turn read
-abbrev pub Finishes : Instr → Parts → Turn → ℕ → Arch → Arch → Seen → Seen → Type 0
-Finishes i parts (Atomic addr len new rd) got old next before after =
-    came_to parts (state_of old before) (effect before.site (state_of old before) i) ≡ Need (Atomic addr len new rd)
-    → run_seen next (recorded got (atomic_access addr len new rd) after)
-    ≡ performed before.site.core got (effect before.site (state_of old before) i) (run_seen old before)
-Finishes i parts (Fetch line why) got old next before after = ⊤
-Finishes i parts (Load addr len why) got old next before after = ⊤
-Finishes i parts (Drain why) got old next before after = ⊤
-Finishes i parts Snoop got old next before after = ⊤
+-- LDSTUB or SWAP, which needed this turn of an atomic: once its operation is recorded, it is performed with the number that the
+-- turn read
+abbrev pub Finishes : Instr → Parts → Access → ℕ → Arch → Arch → Seen → Seen → Type 0
+Finishes i parts x got old next before after =
+    came_to parts (state_of old before) (effect before.site (state_of old before) i) ≡ Need (Atomic x.addr x.len x.put x.rd)
+    → run_seen next (recorded got x after) ≡ performed before.site.core got (effect before.site (state_of old before) i) (run_seen old before)
 
--- an instruction that needed this turn writes the cells of its effect as it ends
-abbrev pub WritesAtEnd : {X : Type 0} → (X → Touch → X) → Instr → Parts → Turn → Arch → Seen → X → X → Type 0
-WritesAtEnd touch i parts turn old seen before after =
-    came_to parts (state_of old seen) (effect seen.site (state_of old seen) i) ≡ Need turn
+-- and it writes the cells of its effect as it ends
+abbrev pub WritesAtEnd : {X : Type 0} → (X → Touch → X) → Instr → Parts → Access → Arch → Seen → X → X → Type 0
+WritesAtEnd touch i parts x old seen before after =
+    came_to parts (state_of old seen) (effect seen.site (state_of old seen) i) ≡ Need (Atomic x.addr x.len x.put x.rd)
     → after ≡ fold touch before (write_touches (effect seen.site (state_of old seen) i).writes)
