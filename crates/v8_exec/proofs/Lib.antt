@@ -7,3 +7,7 @@ mod LoadLemmas
 mod ReadLemmas
 mod TrapLemmas
 mod TurnLemmas
+pub mod EffectShape
+pub mod CourseReads
+pub mod CourseTouches
+pub mod CourseAnswers

@@ -4,4 +4,5 @@ pub mod Accesses
 pub mod Frame
 pub mod Calls
 pub mod Touching
+pub mod CourseParts
 pub mod Returning
