@@ -1,6 +1,6 @@
 -- LDSTUB and SWAP: the effect of an instruction whose operation is an atomic.
-use Rattle.std.proofs.Common.{◌≡◌, ℕ, ◌∷◌, [], List, Bool, cond, true, false, Option, Some, None, unwrap_or, refl, sym, ap, ◌∙◌, ◌==◌}
-use Rattle.lf_model.specs.CellAccess.{after_cells}
+use Rattle.std.proofs.Common.{◌≡◌, ℕ, ◌∷◌, [], List, Bool, cond, true, false, Option, Some, None, unwrap_or, refl, sym, ap, ◌∙◌, ◌==◌, fold}
+use Rattle.lf_model.specs.Course.Touches.{write_touches}
 use Rattle.lf_model.specs.Start.{output_word}
 use Rattle.lf_model.specs.State.{State, advanced, with_register}
 use Rattle.lf_model.specs.Effect.{Site, AccessKind, Access, Effect, with_reads, cell_written, sum_of_operands}
@@ -27,6 +27,7 @@ use Rattle.lf_model.specs.declared.step.Look.{Look}
 use Rattle.lf_model.specs.declared.step.Look.TheVariants.{Hit, Miss}
 use Rattle.lf_model.specs.declared.step.RegBad.{RegBad}
 use Rattle.lf_model.specs.declared.step.Turn.TheVariants.{Atomic, Drain, Load}
+use Rattle.lf_model.specs.declared.touch.Touch.{Touch}
 use Rattle.v8_exec.specs.Accesses.{atomic_access, IsAccessing, Finishes, WritesAtEnd}
 
 -- ---- the operation of an effect
@@ -89,7 +90,7 @@ ends_mem s Lduh addr rd = ends_load s _ refl
 ends_mem s Ldsb addr rd = ends_load s _ refl
 ends_mem s Ldsh addr rd = ends_load s _ refl
 
-control_effect-access : (name : MemName) (rd : ℕ) (s : State) → (control_effect name rd s).access ≡ None
+pub control_effect-access : (name : MemName) (rd : ℕ) (s : State) → (control_effect name rd s).access ≡ None
 control_effect-access Ld rd s = refl
 control_effect-access St rd s = refl
 control_effect-access Ldd rd s = refl
@@ -254,7 +255,7 @@ same_run s t p q states ops = rw states (rw ops refl)
 
 pub finished : (i : Instr) (parts : Parts) (addr len new rd got : ℕ) (old next : Arch) (before after : Seen)
     → state_of next after ≡ advanced (with_register rd got (state_of old before)) → after.ops ≡ before.ops → after.site ≡ before.site
-    → Finishes i parts (Atomic addr len new rd) got old next before after
+    → Finishes i parts (atomic_access addr len new rd) got old next before after
 finished i parts addr len new rd got old next before after state ops site is =
     let s = state_of old before in
     let e = effect before.site s i in
@@ -266,9 +267,9 @@ finished i parts addr len new rd got old next before after state ops site is =
     ∙ ap (λ (t : Site). with_access t.core got (Some (atomic_access addr len new rd)) before.ops) site
     ∙ ap (λ (x : Option Access). with_access before.site.core got x before.ops) (sym access))
 
-pub written : {X : Type 0} (write : ℕ → X → X) (i : Instr) (parts : Parts) (addr len new rd : ℕ) (old : Arch) (before : Seen) (x y : X)
-    → y ≡ after_cells write (cell_written (state_of old before) rd) x → WritesAtEnd write i parts (Atomic addr len new rd) old before x y
-written write i parts addr len new rd old before x y ends is =
+pub written : {X : Type 0} (touch : X → Touch → X) (i : Instr) (parts : Parts) (addr len new rd : ℕ) (old : Arch) (before : Seen) (x y : X)
+    → y ≡ fold touch x (write_touches (cell_written (state_of old before) rd)) → WritesAtEnd touch i parts (atomic_access addr len new rd) old before x y
+written touch i parts addr len new rd old before x y ends is =
     let s = state_of old before in
     let e = effect before.site s i in
-    ends ∙ ap (λ (cells : List ℕ). after_cells write cells x) (sym ((ends_effect before.site s i).writes addr len new rd (needs_atomic parts s e addr len new rd is)))
+    ends ∙ ap (λ (cells : List ℕ). fold touch x (write_touches cells)) (sym ((ends_effect before.site s i).writes addr len new rd (needs_atomic parts s e addr len new rd is)))

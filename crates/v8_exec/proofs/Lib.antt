@@ -1,8 +1,13 @@
 mod AtomicLemmas
-mod CellLemmas
 mod CheckLemmas
 mod CodeLemmas
 mod SizeLemmas
+mod JoinLemmas
 mod LoadLemmas
+mod ReadLemmas
 mod TrapLemmas
 mod TurnLemmas
+pub mod EffectShape
+pub mod CourseReads
+pub mod CourseTouches
+pub mod CourseAnswers

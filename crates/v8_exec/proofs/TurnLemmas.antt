@@ -19,7 +19,7 @@ use Rattle.v8_exec.specs.Accesses.{Asks, IsAccessing}
 use Rattle.v8_exec.proofs.AtomicLemmas.{completed-access}
 
 -- a load, store or atomic, or another instruction
-accessing : (i : Instr) → IsAccessing i ⊎ (IsAccessing i → ⊥)
+pub accessing : (i : Instr) → IsAccessing i ⊎ (IsAccessing i → ⊥)
 accessing (Mem name rd rs1 src) = inl tt
 accessing (Alternate name rd rs1 rs2 asi) = inl tt
 accessing (Call disp30) = inr (λ h. h)

@@ -1,6 +1,6 @@
 -- What loads, stores and atomics need of the fields of their instruction, read from its registers, and ask of the bus.
-use Rattle.std.specs.Prelude.{ℕ, ◌≡◌, ◌*◌, ◌^◌, ◌<◌, ⊤, ◌++◌, List, Some, None, Result, Ok, Err, false, true, Bool, ◌==◌, ◌||◌}
-use Rattle.lf_model.specs.CellAccess.{after_cells}
+use Rattle.std.specs.Prelude.{ℕ, ◌≡◌, ◌*◌, ◌^◌, ◌<◌, ⊤, ◌++◌, List, Some, None, Result, Ok, Err, fold, false, true, Bool, ◌==◌, ◌||◌}
+use Rattle.lf_model.specs.Course.Touches.{write_touches}
 use Rattle.lf_model.specs.Start.{touches_text}
 use Rattle.lf_model.specs.State.{State}
 use Rattle.lf_model.specs.Instructions.{operand_registers, stored_registers}
@@ -12,17 +12,18 @@ use Rattle.lf_model.specs.Step.{Seen, Parts, state_of, run_seen, first_bad, acce
 use Rattle.lf_model.specs.declared.instruction.MemName.{MemName}
 use Rattle.lf_model.specs.declared.control.Arch.{Arch}
 use Rattle.lf_model.specs.declared.instruction.Instr.{Instr}
-use Rattle.lf_model.specs.declared.instruction.Instr.TheVariants.{Mem, Alternate}
+use Rattle.lf_model.specs.declared.instruction.Instr.TheVariants.{Illegal, AltIllegal, FpOff, CpOff, FpQueue, CpQueue, Stbar, Call, Sethi, Bicc, Calc, Ticc, ReadState, ReadAsr, WriteState, WriteAsr, Jmpl, Rett, Flush, Save, Restore, Mem, Alternate}
 use Rattle.lf_model.specs.declared.instruction.Src.{Src}
 use Rattle.lf_model.specs.declared.step.Did.{Did}
-use Rattle.lf_model.specs.declared.step.Did.TheVariants.{Need}
+use Rattle.lf_model.specs.declared.step.Did.TheVariants.{Retired, Turned, Need, Halt, Stop}
 use Rattle.lf_model.specs.declared.step.RegBad.{RegBad}
 use Rattle.lf_model.specs.declared.step.Turn.{Turn}
-use Rattle.lf_model.specs.declared.step.Turn.TheVariants.{Load, Atomic}
+use Rattle.lf_model.specs.declared.step.Turn.TheVariants.{Fetch, Load, Atomic, Drain, Snoop}
+use Rattle.lf_model.specs.declared.touch.Touch.{Touch}
 use Rattle.v8_exec.specs.Reading.{IsAccess}
 use Rattle.v8_exec.specs.declared.operands.Request.{Request}
 
--- these registers are read, and make this number, or the first that reads bad is told
+-- these registers are read, and make this number, or the first that reads bad is answered
 abbrev pub ReadsNumber : Parts → State → List ℕ → ℕ → Result ℕ RegBad → Type 0
 ReadsNumber parts s registers number (Ok value) = (value ≡ number) × (first_bad parts s.ctl.cwp registers ≡ None)
 ReadsNumber parts s registers number (Err bad) = first_bad parts s.ctl.cwp registers ≡ Some bad
@@ -47,7 +48,10 @@ pub record Reads (parts : Parts) (addr len : ℕ) (before after : Seen) (value :
 -- a turn is needed
 abbrev pub IsNeed : Did → Type 0
 IsNeed (Need turn) = ⊤
-IsNeed _ = ⊥
+IsNeed Retired = ⊥
+IsNeed Turned = ⊥
+IsNeed (Halt tt_) = ⊥
+IsNeed (Stop tt_ place syn) = ⊥
 
 -- a load comes to this, and leaves all as it was
 pub record Misses (parts : Parts) (addr len : ℕ) (before after : Seen) (did : Did) : Type 0 where
@@ -69,29 +73,57 @@ is_atomic_size len = len == 1 || len == 4
 
 -- a turn on the bus that is asked for is of an access to RAM; an atomic changes no text, and has a number of so many bytes
 -- and a register
-abbrev pub Asks : Site → Did → Type 0
-Asks site (Need (Load addr len why)) = IsAccess site addr len
-Asks site (Need (Atomic addr len new rd)) =
+abbrev pub AsksTurn : Site → Turn → Type 0
+AsksTurn site (Load addr len why) = IsAccess site addr len
+AsksTurn site (Atomic addr len new rd) =
     IsAccess site addr len × (is_atomic_size len ≡ true) × (touches_text site.image.text addr len ≡ false)
     × (new < 2 ^ (8 * len)) × (rd < 32)
-Asks site _ = ⊤
+AsksTurn site (Fetch line why) = ⊤
+AsksTurn site (Drain why) = ⊤
+AsksTurn site Snoop = ⊤
+
+abbrev pub Asks : Site → Did → Type 0
+Asks site (Need turn) = AsksTurn site turn
+Asks site Retired = ⊤
+Asks site Turned = ⊤
+Asks site (Halt tt_) = ⊤
+Asks site (Stop tt_ place syn) = ⊤
 
 -- a load, store or atomic
 abbrev pub IsAccessing : Instr → Type 0
 IsAccessing (Mem name rd rs1 src) = ⊤
 IsAccessing (Alternate name rd rs1 rs2 asi) = ⊤
-IsAccessing _ = ⊥
+IsAccessing Illegal = ⊥
+IsAccessing AltIllegal = ⊥
+IsAccessing FpOff = ⊥
+IsAccessing CpOff = ⊥
+IsAccessing FpQueue = ⊥
+IsAccessing CpQueue = ⊥
+IsAccessing Stbar = ⊥
+IsAccessing (Call disp30) = ⊥
+IsAccessing (Sethi rd imm22) = ⊥
+IsAccessing (Bicc cond a disp22) = ⊥
+IsAccessing (Calc name rd rs1 src) = ⊥
+IsAccessing (Ticc cond rs1 src) = ⊥
+IsAccessing (ReadState name rd) = ⊥
+IsAccessing (ReadAsr rd rs1) = ⊥
+IsAccessing (WriteState name rs1 src) = ⊥
+IsAccessing (WriteAsr rd rs1 src) = ⊥
+IsAccessing (Jmpl rd rs1 src) = ⊥
+IsAccessing (Rett rs1 src) = ⊥
+IsAccessing (Flush rs1 src) = ⊥
+IsAccessing (Save rd rs1 src) = ⊥
+IsAccessing (Restore rd rs1 src) = ⊥
 
--- LDSTUB or SWAP, which needed this turn: once its operation is recorded, it is performed with the number that the turn read
-abbrev pub Finishes : Instr → Parts → Turn → ℕ → Arch → Arch → Seen → Seen → Type 0
-Finishes i parts (Atomic addr len new rd) got old next before after =
-    came_to parts (state_of old before) (effect before.site (state_of old before) i) ≡ Need (Atomic addr len new rd)
-    → run_seen next (recorded got (atomic_access addr len new rd) after)
-    ≡ performed before.site.core got (effect before.site (state_of old before) i) (run_seen old before)
-Finishes i parts _ got old next before after = ⊤
+-- LDSTUB or SWAP, which needed this turn of an atomic: once its operation is recorded, it is performed with the number that the
+-- turn read
+abbrev pub Finishes : Instr → Parts → Access → ℕ → Arch → Arch → Seen → Seen → Type 0
+Finishes i parts x got old next before after =
+    came_to parts (state_of old before) (effect before.site (state_of old before) i) ≡ Need (Atomic x.addr x.len x.put x.rd)
+    → run_seen next (recorded got x after) ≡ performed before.site.core got (effect before.site (state_of old before) i) (run_seen old before)
 
--- an instruction that needed this turn writes the cells of its effect as it ends
-abbrev pub WritesAtEnd : {X : Type 0} → (ℕ → X → X) → Instr → Parts → Turn → Arch → Seen → X → X → Type 0
-WritesAtEnd write i parts turn old seen before after =
-    came_to parts (state_of old seen) (effect seen.site (state_of old seen) i) ≡ Need turn
-    → after ≡ after_cells write (effect seen.site (state_of old seen) i).writes before
+-- and it writes the cells of its effect as it ends
+abbrev pub WritesAtEnd : {X : Type 0} → (X → Touch → X) → Instr → Parts → Access → Arch → Seen → X → X → Type 0
+WritesAtEnd touch i parts x old seen before after =
+    came_to parts (state_of old seen) (effect seen.site (state_of old seen) i) ≡ Need (Atomic x.addr x.len x.put x.rd)
+    → after ≡ fold touch before (write_touches (effect seen.site (state_of old seen) i).writes)

@@ -8,9 +8,9 @@ use Rattle.lf_model.specs.Step.{Parts, bad_register, first_bad}
 use Rattle.lf_model.specs.declared.instruction.Src.{Src}
 use Rattle.lf_model.specs.declared.instruction.Src.TheVariants.{Reg, Imm}
 use Rattle.lf_model.specs.declared.instruction.MemName.{MemName}
-use Rattle.lf_model.specs.declared.instruction.MemName.TheVariants.{Ldd, Std}
+use Rattle.lf_model.specs.declared.instruction.MemName.TheVariants.{Ld, Ldub, Lduh, Ldd, St, Stb, Sth, Std, Ldsb, Ldsh, Ldstub, Swap}
 use Rattle.lf_model.specs.declared.instruction.Instr.{Instr}
-use Rattle.lf_model.specs.declared.instruction.Instr.TheVariants.{Call, Sethi, Bicc, Calc, Ticc, ReadState, ReadAsr, WriteState, WriteAsr, Jmpl, Rett, Flush, Save, Restore, Mem, Alternate}
+use Rattle.lf_model.specs.declared.instruction.Instr.TheVariants.{Illegal, AltIllegal, FpOff, CpOff, FpQueue, CpQueue, Stbar, Call, Sethi, Bicc, Calc, Ticc, ReadState, ReadAsr, WriteState, WriteAsr, Jmpl, Rett, Flush, Save, Restore, Mem, Alternate}
 use Rattle.lf_model.specs.declared.step.RegBad.{RegBad}
 use Rattle.v8_exec.specs.declared.operands.Operands.{Operands}
 use Rattle.lf_model.specs.declared.step.Look.{Look}
@@ -25,7 +25,16 @@ IsSource (Imm i) = i < 2 ^ 13
 abbrev pub HasPair : MemName → ℕ → Type 0
 HasPair Ldd rd = rd + 1 < 32
 HasPair Std rd = rd + 1 < 32
-HasPair _ rd = ⊤
+HasPair Ld rd = ⊤
+HasPair Ldub rd = ⊤
+HasPair Lduh rd = ⊤
+HasPair St rd = ⊤
+HasPair Stb rd = ⊤
+HasPair Sth rd = ⊤
+HasPair Ldsb rd = ⊤
+HasPair Ldsh rd = ⊤
+HasPair Ldstub rd = ⊤
+HasPair Swap rd = ⊤
 
 -- the fields of an instruction are as an instruction word has them
 abbrev pub IsInstruction : Instr → Type 0
@@ -45,7 +54,13 @@ IsInstruction (Save rd rs1 src) = (rd < 32) × (rs1 < 32) × IsSource src
 IsInstruction (Restore rd rs1 src) = (rd < 32) × (rs1 < 32) × IsSource src
 IsInstruction (Mem name rd rs1 src) = (rd < 32) × (rs1 < 32) × IsSource src × HasPair name rd
 IsInstruction (Alternate name rd rs1 rs2 asi) = (rd < 32) × (rs1 < 32) × (rs2 < 32) × HasPair name rd
-IsInstruction _ = ⊤
+IsInstruction Illegal = ⊤
+IsInstruction AltIllegal = ⊤
+IsInstruction FpOff = ⊤
+IsInstruction CpOff = ⊤
+IsInstruction FpQueue = ⊤
+IsInstruction CpQueue = ⊤
+IsInstruction Stbar = ⊤
 
 abbrev pub ReadsRegister : Parts → State → ℕ → Result ℕ RegBad → Type 0
 ReadsRegister parts s n (Ok value) = (value ≡ register s n) × (bad_register parts s.ctl.cwp n ≡ None)

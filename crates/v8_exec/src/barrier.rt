@@ -1,25 +1,26 @@
-ghost use Rattle.std.specs.Prelude.{◌<◌};
-ghost use Rattle.lf_model.specs.Step.{IsSound};
+ghost use Rattle.std.specs.Prelude.{◌≡◌, ◌<◌, IfOk, IfErr, Ok};
+ghost use Rattle.lf_model.specs.Instructions.{registers_read};
+ghost use Rattle.lf_model.specs.Step.{IsSound, first_bad};
 ghost use Rattle.lf_model.specs.declared.instruction.Instr.TheVariants.{Stbar, Flush};
-ghost use Rattle.v8_exec.specs.Frame.{Empties, Keeps, Performs, Touches};
+ghost use Rattle.v8_exec.specs.Frame.{bad_in, Performs, Keeps, Refuses};
 ghost use Rattle.v8_exec.specs.Reading.{IsSource};
+ghost use Rattle.v8_exec.specs.Touching.{Touches};
 
 use crate::operands::read_operands;
 use crate::ports::Ports;
 use crate::program_counter::advance;
-use crate::trap;
 use lf_model::bus::Why;
 use lf_model::control::Arch;
 use lf_model::instruction::Src;
-use lf_model::step::{Did, Turn};
+use lf_model::step::{Did, RegBad, Turn};
 
 /// STBAR: it waits until no store waits.
 #[tactic(auto, unfolding(lf_model::specs::Effects::effect))]
 pub fn store_barrier<P: Ports>(a: &mut Arch, p: &P) -> Did
     requires sound { IsSound a.old }
-    ensures does { Performs Stbar (P.parts p.now) result a.old a.new (P.seen p.now) (P.seen p.now) }
-    ensures cells { Touches P.read_cell P.write_cell Stbar (P.parts p.now) result a.old (P.seen p.now) (P.struck p.now) (P.struck p.now) }
-    ensures keeps { Keeps a.old a.new (P.seen p.now) (P.seen p.now) (P.room p.now) (P.room p.now) }
+    ensures does { Performs Stbar (P.answers (P.state p.now)) result a.old a.new (P.seen p.now) (P.seen p.now) }
+    ensures touches { Touches P.touch Stbar (P.answers (P.state p.now)) (Ok result) a.old (P.seen p.now) (P.state p.now) (P.state p.now) }
+    ensures keeps { Keeps result a.old a.new (P.seen p.now) (P.seen p.now) (P.room p.now) (P.room p.now) }
 {
     if p.waiting() {
         return Did::Need(Turn::Drain(Why::Stbar));
@@ -30,22 +31,21 @@ pub fn store_barrier<P: Ports>(a: &mut Arch, p: &P) -> Did
 
 /// FLUSH: once no store waits, both caches are emptied. Its operands are read, though the whole caches go.
 #[tactic(auto, unfolding(lf_model::specs::Effects::effect))]
-pub fn flush<P: Ports>(a: &mut Arch, rs1: u8, src: Src, p: &mut P) -> Did
+pub fn flush<P: Ports>(a: &mut Arch, rs1: u8, src: Src, p: &mut P) -> Result<Did, RegBad>
     requires sound { IsSound a.old }
     requires register { rs1 < 32 }
     requires fields { IsSource src }
-    ensures does { Performs (Flush rs1 src) (P.parts p.old) result a.old a.new (P.seen p.old) (P.seen p.new) }
-    ensures cells { Touches P.read_cell P.write_cell (Flush rs1 src) (P.parts p.old) result a.old (P.seen p.old) (P.struck p.old) (P.struck p.new) }
-    ensures keeps { Keeps a.old a.new (P.seen p.old) (P.seen p.new) (P.room p.old) (P.room p.new) }
-    ensures empties { Empties (Flush rs1 src) result (P.caches_empty p.new) }
+    ensures read { first_bad (P.answers (P.state p.old)) a.old.ctl.cwp (registers_read (Flush rs1 src)) ≡ bad_in result }
+    ensures does { IfOk result (λ did. Performs (Flush rs1 src) (P.answers (P.state p.old)) did a.old a.new (P.seen p.old) (P.seen p.new)) }
+    ensures touches { Touches P.touch (Flush rs1 src) (P.answers (P.state p.old)) result a.old (P.seen p.old) (P.state p.old) (P.state p.new) }
+    ensures keeps { IfOk result (λ did. Keeps did a.old a.new (P.seen p.old) (P.seen p.new) (P.room p.old) (P.room p.new)) }
+    ensures refuses { IfErr result (λ bad. Refuses bad a.old a.new (P.seen p.old) (P.seen p.new) (P.answers (P.state p.old)) (P.answers (P.state p.new)) (P.room p.old) (P.room p.new)) }
 {
-    if let Err(bad) = read_operands(a, rs1, src, p) {
-        return trap::stop(bad, p);
-    }
+    read_operands(a, rs1, src, p)?;
     if p.waiting() {
-        return Did::Need(Turn::Drain(Why::Flush));
+        return Ok(Did::Need(Turn::Drain(Why::Flush)));
     }
     p.flush();
     advance(a);
-    Did::Retired
+    Ok(Did::Retired)
 }

@@ -1,56 +1,56 @@
-ghost use Rattle.std.specs.Prelude.{◌≡◌, ◌<◌, ◌+◌, ◌^◌};
-ghost use Rattle.lf_model.specs.CellAccess.{cells_after};
+ghost use Rattle.std.specs.Prelude.{◌≡◌, ◌<◌, ◌+◌, ◌^◌, fold, IfOk, IfErr};
 ghost use Rattle.lf_model.specs.Effects.{effect};
-ghost use Rattle.lf_model.specs.Instructions.{instruction_of};
+ghost use Rattle.lf_model.specs.Instructions.{instruction_of, registers_read};
 ghost use Rattle.lf_model.specs.Traps.{fetch_trap};
-ghost use Rattle.lf_model.specs.Step.{IsSound, state_of, run_seen, counted, Does};
+ghost use Rattle.lf_model.specs.Step.{IsSound, state_of, run_seen, first_bad, counted, Does};
 ghost use Rattle.v8_exec.specs.Accesses.{Asks, IsAccessing};
-ghost use Rattle.v8_exec.specs.Frame.{Keeps, Counts, Empties, Performs, Touches};
+ghost use Rattle.v8_exec.specs.Frame.{bad_in, Performs, Keeps, Refuses, Counts};
 ghost use Rattle.v8_exec.specs.Reading.{IsInstruction};
+ghost use Rattle.v8_exec.specs.Touching.{Touches, touches_of};
 
 use crate::ports::Ports;
 use crate::words::decoded;
 use crate::{barrier, branch, calculate, memory, refuse, state_register, trap, windows};
 use lf_model::control::Arch;
 use lf_model::instruction::Instr;
-use lf_model::step::Did;
+use lf_model::step::{Did, RegBad};
 use v8_traps::INSTRUCTION_ACCESS_EXCEPTION;
 
-/// Makes an instruction's effect.
-#[tactic(auto, unfolding(lf_model::specs::Effects::effect))]
-fn perform<P: Ports>(a: &mut Arch, instr: Instr, p: &mut P) -> Did
+/// Reads an instruction's registers and makes its effect, or answers the first of them that is bad.
+fn perform<P: Ports>(a: &mut Arch, instr: Instr, p: &mut P) -> Result<Did, RegBad>
     requires sound { IsSound a.old }
     requires core { a.old.core ≡ (P.seen p.old).site.core }
     requires count { a.old.k + 1 < 2 ^ 32 }
     requires fields { IsInstruction instr }
     requires room { 0 < P.room p.old }
-    ensures does { Performs instr (P.parts p.old) result a.old a.new (P.seen p.old) (P.seen p.new) }
-    ensures cells { Touches P.read_cell P.write_cell instr (P.parts p.old) result a.old (P.seen p.old) (P.struck p.old) (P.struck p.new) }
-    ensures keeps { Keeps a.old a.new (P.seen p.old) (P.seen p.new) (P.room p.old) (P.room p.new) }
-    ensures empties { Empties instr result (P.caches_empty p.new) }
-    ensures turn { IsAccessing instr → Asks (P.seen p.old).site result }
+    ensures read { first_bad (P.answers (P.state p.old)) a.old.ctl.cwp (registers_read instr) ≡ bad_in result }
+    ensures does { IfOk result (λ did. Performs instr (P.answers (P.state p.old)) did a.old a.new (P.seen p.old) (P.seen p.new)) }
+    ensures touches { Touches P.touch instr (P.answers (P.state p.old)) result a.old (P.seen p.old) (P.state p.old) (P.state p.new) }
+    ensures keeps { IfOk result (λ did. Keeps did a.old a.new (P.seen p.old) (P.seen p.new) (P.room p.old) (P.room p.new)) }
+    ensures refuses { IfErr result (λ bad. Refuses bad a.old a.new (P.seen p.old) (P.seen p.new) (P.answers (P.state p.old)) (P.answers (P.state p.new)) (P.room p.old) (P.room p.new)) }
+    ensures turn { IsAccessing instr → IfOk result (λ did. Asks (P.seen p.old).site did) }
 {
     match instr {
-        Instr::Illegal => refuse::illegal(a, p),
-        Instr::AltIllegal => refuse::illegal_alternate(a, p),
-        Instr::FpOff => refuse::floating_point(a, p),
-        Instr::CpOff => refuse::coprocessor(a, p),
-        Instr::FpQueue => refuse::floating_point_queue(a, p),
-        Instr::CpQueue => refuse::coprocessor_queue(a, p),
-        Instr::Stbar => barrier::store_barrier(a, p),
+        Instr::Illegal => Ok(refuse::illegal(a, p)),
+        Instr::AltIllegal => Ok(refuse::illegal_alternate(a, p)),
+        Instr::FpOff => Ok(refuse::floating_point(a, p)),
+        Instr::CpOff => Ok(refuse::coprocessor(a, p)),
+        Instr::FpQueue => Ok(refuse::floating_point_queue(a, p)),
+        Instr::CpQueue => Ok(refuse::coprocessor_queue(a, p)),
+        Instr::Stbar => Ok(barrier::store_barrier(a, p)),
         Instr::Flush { rs1, src } => barrier::flush(a, rs1, src, p),
-        Instr::Call { disp30 } => branch::call(a, disp30, p),
+        Instr::Call { disp30 } => Ok(branch::call(a, disp30, p)),
         Instr::Bicc {
             cond,
             a: annul,
             disp22,
-        } => branch::branch(a, cond, annul, disp22, p),
+        } => Ok(branch::branch(a, cond, annul, disp22, p)),
         Instr::Jmpl { rd, rs1, src } => branch::jump(a, rd, rs1, src, p),
         Instr::Ticc { cond, rs1, src } => branch::software_trap(a, cond, rs1, src, p),
-        Instr::Sethi { rd, imm22 } => calculate::sethi(a, rd, imm22, p),
+        Instr::Sethi { rd, imm22 } => Ok(calculate::sethi(a, rd, imm22, p)),
         Instr::Calc { name, rd, rs1, src } => calculate::calculate(a, name, rd, rs1, src, p),
-        Instr::ReadState { name, rd } => state_register::read(a, name, rd, p),
-        Instr::ReadAsr { rd, rs1 } => state_register::read_asr(a, rd, rs1, p),
+        Instr::ReadState { name, rd } => Ok(state_register::read(a, name, rd, p)),
+        Instr::ReadAsr { rd, rs1 } => Ok(state_register::read_asr(a, rd, rs1, p)),
         Instr::WriteState { name, rs1, src } => state_register::write(a, name, rs1, src, p),
         Instr::WriteAsr { rd, rs1, src } => state_register::write_asr(a, rd, rs1, src, p),
         Instr::Mem { name, rd, rs1, src } => memory::access(a, name, rd, rs1, src, p),
@@ -73,26 +73,28 @@ fn count(did: Did) -> u32
 {
     match did {
         Did::Retired | Did::Halt(_) => 1,
-        _ => 0,
+        Did::Turned | Did::Need(_) | Did::Stop { .. } => 0,
     }
 }
 
 /// The instruction word `w` at PC, which retires or is answered as the parts of the core ask. It reads its registers in
-/// order, up to the first that is bad. Only an instruction that retires changes state, output or operations; it is
-/// counted then, and where it halts the core.
+/// order, up to the first that is bad; then a load looks its bytes up. Only an instruction that retires changes state, output
+/// or operations, updates or empties a cache, or writes a register; it is counted then, and where it halts the core.
 pub fn exec<P: Ports>(a: &mut Arch, w: u32, p: &mut P) -> Did
     requires sound { IsSound a.old }
     requires core { a.old.core ≡ (P.seen p.old).site.core }
     requires instructions { a.old.n + 1 < 2 ^ 32 }
     requires operations { a.old.k + 1 < 2 ^ 32 }
     requires room { 0 < P.room p.old }
-    ensures does { Does (P.seen p.old).site.core (P.parts p.old) (effect (P.seen p.old).site (state_of a.old (P.seen p.old)) (instruction_of w)) result (run_seen a.old (P.seen p.old)) (run_seen a.new (P.seen p.new)) }
-    ensures cells { P.struck p.new ≡ cells_after P.read_cell P.write_cell (P.parts p.old) a.old.ctl.cwp (effect (P.seen p.old).site (state_of a.old (P.seen p.old)) (instruction_of w)) result (P.struck p.old) }
-    ensures counts { Counts a.old a.new (P.seen p.old) (P.seen p.new) (P.room p.old) (P.room p.new) result }
-    ensures empties { Empties (instruction_of w) result (P.caches_empty p.new) }
+    ensures does { Does (P.seen p.old).site.core (P.answers (P.state p.old)) (effect (P.seen p.old).site (state_of a.old (P.seen p.old)) (instruction_of w)) result (run_seen a.old (P.seen p.old)) (run_seen a.new (P.seen p.new)) }
+    ensures touches { P.state p.new ≡ fold P.touch (P.state p.old) (touches_of (P.answers (P.state p.old)) a.old.ctl.cwp (effect (P.seen p.old).site (state_of a.old (P.seen p.old)) (instruction_of w)) result) }
+    ensures counts { Counts result a.old a.new (P.seen p.old) (P.seen p.new) (P.room p.old) (P.room p.new) }
     ensures turn { Asks (P.seen p.old).site result }
 {
-    let did = perform(a, decoded(w), p);
+    let did = match perform(a, decoded(w), p) {
+        Ok(did) => did,
+        Err(bad) => return trap::stop(bad, p),
+    };
     a.n += count(did);
     did
 }
@@ -101,11 +103,12 @@ pub fn exec<P: Ports>(a: &mut Arch, w: u32, p: &mut P) -> Did
 pub fn fetch_trap<P: Ports>(a: &mut Arch, p: &mut P) -> Did
     requires sound { IsSound a.old }
     requires instructions { a.old.n + 1 < 2 ^ 32 }
-    ensures does { Does (P.seen p.old).site.core (P.parts p.old) (fetch_trap (state_of a.old (P.seen p.old))) result (run_seen a.old (P.seen p.old)) (run_seen a.new (P.seen p.new)) }
-    ensures cells { P.struck p.new ≡ cells_after P.read_cell P.write_cell (P.parts p.old) a.old.ctl.cwp (fetch_trap (state_of a.old (P.seen p.old))) result (P.struck p.old) }
-    ensures counts { Counts a.old a.new (P.seen p.old) (P.seen p.new) (P.room p.old) (P.room p.new) result }
+    ensures does { Does (P.seen p.old).site.core (P.answers (P.state p.old)) (fetch_trap (state_of a.old (P.seen p.old))) result (run_seen a.old (P.seen p.old)) (run_seen a.new (P.seen p.new)) }
+    ensures touches { P.state p.new ≡ fold P.touch (P.state p.old) (touches_of (P.answers (P.state p.old)) a.old.ctl.cwp (fetch_trap (state_of a.old (P.seen p.old))) result) }
+    ensures counts { Counts result a.old a.new (P.seen p.old) (P.seen p.new) (P.room p.old) (P.room p.new) }
+    ensures turn { Asks (P.seen p.old).site result }
 {
-    let did = trap::take_unread(a, INSTRUCTION_ACCESS_EXCEPTION, p);
+    let did = trap::take(a, INSTRUCTION_ACCESS_EXCEPTION, p);
     a.n += count(did);
     did
 }

@@ -1,14 +1,17 @@
-ghost use Rattle.std.specs.Prelude.{◌≡◌, ◌<◌, ◌≤◌, ◌+◌, ◌*◌, ◌^◌, IfOk, IfErr, false, true};
-ghost use Rattle.lf_model.specs.CellAccess.{written_by};
+ghost use Rattle.std.specs.Prelude.{◌≡◌, ◌<◌, ◌≤◌, ◌+◌, ◌*◌, ◌^◌, fold, IfOk, IfErr, false, true};
+ghost use Rattle.lf_model.specs.Instructions.{registers_read};
 ghost use Rattle.lf_model.specs.Start.{touches_text};
 ghost use Rattle.lf_model.specs.Memory.{size_of, load_refused, store_refused, access_misaligned, access_refused, extended, load_effect, load_double_effect, store_effect, output_effect, atomic_effect, stored_number, mem_effect};
 ghost use Rattle.lf_model.specs.State.{register};
 ghost use Rattle.lf_model.specs.Alternate.{is_plain_space, alternate_refused, control_effect};
-ghost use Rattle.lf_model.specs.Step.{IsSound, state_of};
+ghost use Rattle.lf_model.specs.Step.{IsSound, state_of, first_bad};
 ghost use Rattle.lf_model.specs.declared.instruction.Instr.TheVariants.{Mem, Alternate};
-ghost use Rattle.v8_exec.specs.Frame.{Keeps, Makes, Performs, Touches};
+ghost use Rattle.lf_model.specs.declared.touch.Touch.TheVariants.{LookData};
+ghost use Rattle.v8_exec.specs.Calls.{spent_by_read};
+ghost use Rattle.v8_exec.specs.Frame.{bad_in, Makes, Performs, Keeps, Refuses};
 ghost use Rattle.v8_exec.specs.Accesses.{Asks, Looks, is_atomic_size};
 ghost use Rattle.v8_exec.specs.Reading.{IsSource, HasPair, IsAccess};
+ghost use Rattle.v8_exec.specs.Touching.{acts_of, Touches};
 
 use crate::operands::{Request, read_request, write_register};
 use crate::ports::Ports;
@@ -19,7 +22,7 @@ use lf_model::addresses::OUTPUT_WORD;
 use lf_model::bus::Why;
 use lf_model::control::Arch;
 use lf_model::instruction::{MemName, Src};
-use lf_model::step::{Did, Look, Turn};
+use lf_model::step::{Did, Look, RegBad, Turn};
 use lf_model::trap::Checks;
 use v8_traps::first_trap;
 
@@ -72,7 +75,12 @@ fn is_refused<P: Ports>(name: MemName, addr: u32, p: &P) -> bool
         MemName::Ldstub | MemName::Swap => {
             is_load_refused(addr, len, p) || is_store_refused(addr, len, p)
         }
-        _ => is_load_refused(addr, len, p),
+        MemName::Ld
+        | MemName::Ldub
+        | MemName::Lduh
+        | MemName::Ldd
+        | MemName::Ldsb
+        | MemName::Ldsh => is_load_refused(addr, len, p),
     }
 }
 
@@ -100,11 +108,11 @@ fn is_alternate_refused<P: Ports>(name: MemName, asi: u8, addr: u32, p: &P) -> b
 fn look<P: Ports>(addr: u32, len: u8, p: &mut P) -> Result<u64, Did>
     requires access { IsAccess (P.seen p.old).site addr len }
     requires room { 0 < P.room p.old }
-    ensures looks { Looks (P.parts p.old) addr len (P.seen p.old) (P.seen p.new) result }
+    ensures looks { Looks (P.answers (P.state p.old)) addr len (P.seen p.old) (P.seen p.new) result }
+    ensures touches { P.state p.new ≡ P.touch (P.state p.old) (LookData addr len) }
     ensures turn { IfErr result (Asks (P.seen p.old).site) }
     ensures fits { IfOk result (λ value. value < 2 ^ (8 * len)) }
-    ensures struck { P.struck p.new ≡ P.struck p.old }
-    ensures room { P.room p.old ≤ P.room p.new + 1 }
+    ensures room { P.room p.old ≤ P.room p.new + spent_by_read result }
 {
     let waiting = p.waiting();
     match p.load(addr, len) {
@@ -135,9 +143,9 @@ fn load<P: Ports>(a: &mut Arch, name: MemName, addr: u32, rd: u8, p: &mut P) -> 
     requires register { rd < 32 }
     requires access { IsAccess (P.seen p.old).site addr (size_of name) }
     requires room { 0 < P.room p.old }
-    ensures does { Makes (load_effect name addr rd (state_of a.old (P.seen p.old))) (P.parts p.old) result a.old a.new (P.seen p.old) (P.seen p.new) }
-    ensures cells { P.struck p.new ≡ written_by P.write_cell result (load_effect name addr rd (state_of a.old (P.seen p.old))).writes (P.struck p.old) }
-    ensures keeps { Keeps a.old a.new (P.seen p.old) (P.seen p.new) (P.room p.old) (P.room p.new) }
+    ensures does { Makes (load_effect name addr rd (state_of a.old (P.seen p.old))) (P.answers (P.state p.old)) result a.old a.new (P.seen p.old) (P.seen p.new) }
+    ensures touches { P.state p.new ≡ fold P.touch (P.state p.old) (acts_of (load_effect name addr rd (state_of a.old (P.seen p.old))) result) }
+    ensures keeps { Keeps result a.old a.new (P.seen p.old) (P.seen p.new) (P.room p.old) (P.room p.new) }
     ensures turn { Asks (P.seen p.old).site result }
 {
     match look(addr, size(name), p) {
@@ -156,9 +164,9 @@ fn load_double<P: Ports>(a: &mut Arch, addr: u32, rd: u8, p: &mut P) -> Did
     requires register { rd + 1 < 32 }
     requires access { IsAccess (P.seen p.old).site addr 8 }
     requires room { 0 < P.room p.old }
-    ensures does { Makes (load_double_effect addr rd (state_of a.old (P.seen p.old))) (P.parts p.old) result a.old a.new (P.seen p.old) (P.seen p.new) }
-    ensures cells { P.struck p.new ≡ written_by P.write_cell result (load_double_effect addr rd (state_of a.old (P.seen p.old))).writes (P.struck p.old) }
-    ensures keeps { Keeps a.old a.new (P.seen p.old) (P.seen p.new) (P.room p.old) (P.room p.new) }
+    ensures does { Makes (load_double_effect addr rd (state_of a.old (P.seen p.old))) (P.answers (P.state p.old)) result a.old a.new (P.seen p.old) (P.seen p.new) }
+    ensures touches { P.state p.new ≡ fold P.touch (P.state p.old) (acts_of (load_double_effect addr rd (state_of a.old (P.seen p.old))) result) }
+    ensures keeps { Keeps result a.old a.new (P.seen p.old) (P.seen p.new) (P.room p.old) (P.room p.new) }
     ensures turn { Asks (P.seen p.old).site result }
 {
     match look(addr, 8, p) {
@@ -180,9 +188,9 @@ fn store<P: Ports>(a: &mut Arch, name: MemName, addr: u32, rd: u8, value: u64, p
     requires access { IsAccess (P.seen p.old).site addr (size_of name) }
     requires text { touches_text (P.seen p.old).site.image.text addr (size_of name) ≡ false }
     requires room { 0 < P.room p.old }
-    ensures does { Makes (store_effect name addr rd (state_of a.old (P.seen p.old))) (P.parts p.old) result a.old a.new (P.seen p.old) (P.seen p.new) }
-    ensures cells { P.struck p.new ≡ written_by P.write_cell result (store_effect name addr rd (state_of a.old (P.seen p.old))).writes (P.struck p.old) }
-    ensures keeps { Keeps a.old a.new (P.seen p.old) (P.seen p.new) (P.room p.old) (P.room p.new) }
+    ensures does { Makes (store_effect name addr rd (state_of a.old (P.seen p.old))) (P.answers (P.state p.old)) result a.old a.new (P.seen p.old) (P.seen p.new) }
+    ensures touches { P.state p.new ≡ fold P.touch (P.state p.old) (acts_of (store_effect name addr rd (state_of a.old (P.seen p.old))) result) }
+    ensures keeps { Keeps result a.old a.new (P.seen p.old) (P.seen p.new) (P.room p.old) (P.room p.new) }
     ensures turn { Asks (P.seen p.old).site result }
 {
     if p.store(addr, size(name), value).is_err() {
@@ -198,9 +206,9 @@ fn output<P: Ports>(a: &mut Arch, rd: u8, value: u64, p: &mut P) -> Did
     requires sound { IsSound a.old }
     requires number { value ≡ register (state_of a.old (P.seen p.old)) rd }
     requires room { 0 < P.room p.old }
-    ensures does { Makes (output_effect rd (state_of a.old (P.seen p.old))) (P.parts p.old) result a.old a.new (P.seen p.old) (P.seen p.new) }
-    ensures cells { P.struck p.new ≡ written_by P.write_cell result (output_effect rd (state_of a.old (P.seen p.old))).writes (P.struck p.old) }
-    ensures keeps { Keeps a.old a.new (P.seen p.old) (P.seen p.new) (P.room p.old) (P.room p.new) }
+    ensures does { Makes (output_effect rd (state_of a.old (P.seen p.old))) (P.answers (P.state p.old)) result a.old a.new (P.seen p.old) (P.seen p.new) }
+    ensures touches { P.state p.new ≡ fold P.touch (P.state p.old) (acts_of (output_effect rd (state_of a.old (P.seen p.old))) result) }
+    ensures keeps { Keeps result a.old a.new (P.seen p.old) (P.seen p.new) (P.room p.old) (P.room p.new) }
     ensures turn { Asks (P.seen p.old).site result }
 {
     p.out((value % 256) as u8);
@@ -216,8 +224,8 @@ fn atomic<P: Ports>(a: &Arch, name: MemName, addr: u32, rd: u8, value: u32, p: &
     requires text { touches_text (P.seen p.now).site.image.text addr (size_of name) ≡ false }
     requires fits { value < 2 ^ (8 * size_of name) }
     requires number { value ≡ stored_number name rd (state_of a.now (P.seen p.now)) }
-    ensures does { Makes (atomic_effect name addr rd (state_of a.now (P.seen p.now))) (P.parts p.now) result a.now a.now (P.seen p.now) (P.seen p.now) }
-    ensures cells { P.struck p.now ≡ written_by P.write_cell result (atomic_effect name addr rd (state_of a.now (P.seen p.now))).writes (P.struck p.now) }
+    ensures does { Makes (atomic_effect name addr rd (state_of a.now (P.seen p.now))) (P.answers (P.state p.now)) result a.now a.now (P.seen p.now) (P.seen p.now) }
+    ensures touches { P.state p.now ≡ fold P.touch (P.state p.now) (acts_of (atomic_effect name addr rd (state_of a.now (P.seen p.now))) result) }
     ensures turn { Asks (P.seen p.now).site result }
 {
     if p.waiting() {
@@ -242,9 +250,9 @@ fn make<P: Ports>(a: &mut Arch, name: MemName, rd: u8, x: Request, p: &mut P) ->
     requires aligned { access_misaligned name x.addr ≡ false }
     requires accepted { access_refused (P.seen p.old).site name x.addr ≡ false }
     requires room { 0 < P.room p.old }
-    ensures does { Makes (mem_effect name x.addr rd (state_of a.old (P.seen p.old))) (P.parts p.old) result a.old a.new (P.seen p.old) (P.seen p.new) }
-    ensures cells { P.struck p.new ≡ written_by P.write_cell result (mem_effect name x.addr rd (state_of a.old (P.seen p.old))).writes (P.struck p.old) }
-    ensures keeps { Keeps a.old a.new (P.seen p.old) (P.seen p.new) (P.room p.old) (P.room p.new) }
+    ensures does { Makes (mem_effect name x.addr rd (state_of a.old (P.seen p.old))) (P.answers (P.state p.old)) result a.old a.new (P.seen p.old) (P.seen p.new) }
+    ensures touches { P.state p.new ≡ fold P.touch (P.state p.old) (acts_of (mem_effect name x.addr rd (state_of a.old (P.seen p.old))) result) }
+    ensures keeps { Keeps result a.old a.new (P.seen p.old) (P.seen p.new) (P.room p.old) (P.room p.new) }
     ensures turn { Asks (P.seen p.old).site result }
 {
     match name {
@@ -262,40 +270,46 @@ fn make<P: Ports>(a: &mut Arch, name: MemName, rd: u8, x: Request, p: &mut P) ->
 
 /// A load, store or atomic.
 #[tactic(auto, unfolding(lf_model::specs::Effects::effect))]
-pub fn access<P: Ports>(a: &mut Arch, name: MemName, rd: u8, rs1: u8, src: Src, p: &mut P) -> Did
+pub fn access<P: Ports>(
+    a: &mut Arch,
+    name: MemName,
+    rd: u8,
+    rs1: u8,
+    src: Src,
+    p: &mut P,
+) -> Result<Did, RegBad>
     requires sound { IsSound a.old }
     requires count { a.old.k + 1 < 2 ^ 32 }
     requires registers { (rd < 32) × (rs1 < 32) }
     requires fields { IsSource src }
     requires pair { HasPair name rd }
     requires room { 0 < P.room p.old }
-    ensures does { Performs (Mem name rd rs1 src) (P.parts p.old) result a.old a.new (P.seen p.old) (P.seen p.new) }
-    ensures cells { Touches P.read_cell P.write_cell (Mem name rd rs1 src) (P.parts p.old) result a.old (P.seen p.old) (P.struck p.old) (P.struck p.new) }
-    ensures keeps { Keeps a.old a.new (P.seen p.old) (P.seen p.new) (P.room p.old) (P.room p.new) }
-    ensures turn { Asks (P.seen p.old).site result }
+    ensures read { first_bad (P.answers (P.state p.old)) a.old.ctl.cwp (registers_read (Mem name rd rs1 src)) ≡ bad_in result }
+    ensures does { IfOk result (λ did. Performs (Mem name rd rs1 src) (P.answers (P.state p.old)) did a.old a.new (P.seen p.old) (P.seen p.new)) }
+    ensures touches { Touches P.touch (Mem name rd rs1 src) (P.answers (P.state p.old)) result a.old (P.seen p.old) (P.state p.old) (P.state p.new) }
+    ensures keeps { IfOk result (λ did. Keeps did a.old a.new (P.seen p.old) (P.seen p.new) (P.room p.old) (P.room p.new)) }
+    ensures refuses { IfErr result (λ bad. Refuses bad a.old a.new (P.seen p.old) (P.seen p.new) (P.answers (P.state p.old)) (P.answers (P.state p.new)) (P.room p.old) (P.room p.new)) }
+    ensures turn { IfOk result (λ did. Asks (P.seen p.old).site did) }
 {
-    let x = match read_request(a, name, rd, rs1, src, p) {
-        Ok(x) => x,
-        Err(bad) => return trap::stop(bad, p),
-    };
+    let x = read_request(a, name, rd, rs1, src, p)?;
     let checks = Checks {
         align: is_misaligned(name, x.addr),
         access: is_refused(name, x.addr, p),
         ..Checks::default()
     };
-    match first_trap(&checks) {
-        Some(tt) => trap::take(a, tt, p),
-        None => make(a, name, rd, x, p),
+    if let Some(tt) = first_trap(&checks) {
+        return Ok(trap::take(a, tt, p));
     }
+    Ok(make(a, name, rd, x, p))
 }
 
 /// LDA and STA of a system control register, which reads as 0.
 fn control<P: Ports>(a: &mut Arch, name: MemName, rd: u8, p: &mut P) -> Did
     requires sound { IsSound a.old }
     requires register { rd < 32 }
-    ensures does { Makes (control_effect name rd (state_of a.old (P.seen p.old))) (P.parts p.old) result a.old a.new (P.seen p.old) (P.seen p.new) }
-    ensures cells { P.struck p.new ≡ written_by P.write_cell result (control_effect name rd (state_of a.old (P.seen p.old))).writes (P.struck p.old) }
-    ensures keeps { Keeps a.old a.new (P.seen p.old) (P.seen p.new) (P.room p.old) (P.room p.new) }
+    ensures does { Makes (control_effect name rd (state_of a.old (P.seen p.old))) (P.answers (P.state p.old)) result a.old a.new (P.seen p.old) (P.seen p.new) }
+    ensures touches { P.state p.new ≡ fold P.touch (P.state p.old) (acts_of (control_effect name rd (state_of a.old (P.seen p.old))) result) }
+    ensures keeps { Keeps result a.old a.new (P.seen p.old) (P.seen p.new) (P.room p.old) (P.room p.new) }
     ensures turn { Asks (P.seen p.old).site result }
 {
     if name == MemName::Ld {
@@ -315,30 +329,31 @@ pub fn alternate<P: Ports>(
     rs2: u8,
     asi: u8,
     p: &mut P,
-) -> Did
+) -> Result<Did, RegBad>
     requires sound { IsSound a.old }
     requires count { a.old.k + 1 < 2 ^ 32 }
     requires registers { (rd < 32) × (rs1 < 32) × (rs2 < 32) }
     requires pair { HasPair name rd }
     requires room { 0 < P.room p.old }
-    ensures does { Performs (Alternate name rd rs1 rs2 asi) (P.parts p.old) result a.old a.new (P.seen p.old) (P.seen p.new) }
-    ensures cells { Touches P.read_cell P.write_cell (Alternate name rd rs1 rs2 asi) (P.parts p.old) result a.old (P.seen p.old) (P.struck p.old) (P.struck p.new) }
-    ensures keeps { Keeps a.old a.new (P.seen p.old) (P.seen p.new) (P.room p.old) (P.room p.new) }
-    ensures turn { Asks (P.seen p.old).site result }
+    ensures read { first_bad (P.answers (P.state p.old)) a.old.ctl.cwp (registers_read (Alternate name rd rs1 rs2 asi)) ≡ bad_in result }
+    ensures does { IfOk result (λ did. Performs (Alternate name rd rs1 rs2 asi) (P.answers (P.state p.old)) did a.old a.new (P.seen p.old) (P.seen p.new)) }
+    ensures touches { Touches P.touch (Alternate name rd rs1 rs2 asi) (P.answers (P.state p.old)) result a.old (P.seen p.old) (P.state p.old) (P.state p.new) }
+    ensures keeps { IfOk result (λ did. Keeps did a.old a.new (P.seen p.old) (P.seen p.new) (P.room p.old) (P.room p.new)) }
+    ensures refuses { IfErr result (λ bad. Refuses bad a.old a.new (P.seen p.old) (P.seen p.new) (P.answers (P.state p.old)) (P.answers (P.state p.new)) (P.room p.old) (P.room p.new)) }
+    ensures turn { IfOk result (λ did. Asks (P.seen p.old).site did) }
 {
-    let x = match read_request(a, name, rd, rs1, Src::Reg(rs2), p) {
-        Ok(x) => x,
-        Err(bad) => return trap::stop(bad, p),
-    };
+    let x = read_request(a, name, rd, rs1, Src::Reg(rs2), p)?;
     let checks = Checks {
         privileged: !a.ctl.s,
         align: is_misaligned(name, x.addr),
         access: is_alternate_refused(name, asi, x.addr, p),
         ..Checks::default()
     };
-    match first_trap(&checks) {
-        Some(tt) => trap::take(a, tt, p),
-        None if is_plain_space(asi) => make(a, name, rd, x, p),
-        None => control(a, name, rd, p),
+    if let Some(tt) = first_trap(&checks) {
+        return Ok(trap::take(a, tt, p));
     }
+    if is_plain_space(asi) {
+        return Ok(make(a, name, rd, x, p));
+    }
+    Ok(control(a, name, rd, p))
 }

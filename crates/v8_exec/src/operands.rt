@@ -1,6 +1,6 @@
-ghost use Rattle.std.specs.Prelude.{◌≡◌, ◌*◌, ◌^◌, ◌<◌, ◌≤◌, ◌++◌, IfOk, IfErr};
+ghost use Rattle.std.specs.Prelude.{◌≡◌, ◌*◌, ◌^◌, ◌<◌, ◌≤◌, ◌++◌, fold, IfOk, IfErr};
 ghost use Rattle.lf_num.specs.Bits.{sign_extended};
-ghost use Rattle.lf_model.specs.CellAccess.{after_register, after_registers, after_cells};
+ghost use Rattle.lf_model.specs.Course.Touches.{write_touches};
 ghost use Rattle.lf_model.specs.Effect.{cell_written};
 ghost use Rattle.lf_model.specs.Instructions.{operand_registers, src_registers, stored_registers};
 ghost use Rattle.lf_model.specs.Memory.{size_of, stored_number};
@@ -8,6 +8,7 @@ ghost use Rattle.lf_model.specs.State.{with_register};
 ghost use Rattle.lf_model.specs.Step.{state_of};
 ghost use Rattle.v8_exec.specs.Accesses.{ReadsNumber, ReadsRequest};
 ghost use Rattle.v8_exec.specs.Reading.{IsSource, HasPair, ReadsRegister, ReadsSource, ReadsOperands};
+ghost use Rattle.v8_exec.specs.Touching.{read_of, reads_of};
 
 use crate::ports::Ports;
 use lf_model::control::Arch;
@@ -31,15 +32,15 @@ fn extended(simm13: u32) -> u32
 }
 
 /// Register `n` of the current window, where register 0 is 0.
-#[tactic(auto, unfolding(lf_model::specs::CellAccess::after_register))]
+#[tactic(auto, unfolding(crate::specs::Touching::read_of))]
 pub fn read_register<P: Ports>(a: &Arch, n: u8, p: &mut P) -> Result<u32, RegBad>
     requires window { a.now.ctl.cwp < 8 }
     requires register { n < 32 }
     ensures within { IfErr result (λ bad. bad.cell < 136) }
-    ensures read { ReadsRegister (P.parts p.old) (state_of a.now (P.seen p.old)) n result }
+    ensures read { ReadsRegister (P.answers (P.state p.old)) (state_of a.now (P.seen p.old)) n result }
     ensures seen { P.seen p.new ≡ P.seen p.old }
-    ensures parts { P.parts p.new ≡ P.parts p.old }
-    ensures cells { P.struck p.new ≡ after_register P.read_cell a.now.ctl.cwp n (P.struck p.old) }
+    ensures parts { P.answers (P.state p.new) ≡ P.answers (P.state p.old) }
+    ensures touches { P.state p.new ≡ fold P.touch (P.state p.old) (read_of a.now.ctl.cwp n) }
     ensures room { P.room p.old ≤ P.room p.new }
 {
     if n == 0 {
@@ -53,10 +54,10 @@ fn read_source<P: Ports>(a: &Arch, src: Src, p: &mut P) -> Result<u32, RegBad>
     requires window { a.now.ctl.cwp < 8 }
     requires fields { IsSource src }
     ensures within { IfErr result (λ bad. bad.cell < 136) }
-    ensures read { ReadsSource (P.parts p.old) (state_of a.now (P.seen p.old)) src result }
+    ensures read { ReadsSource (P.answers (P.state p.old)) (state_of a.now (P.seen p.old)) src result }
     ensures seen { P.seen p.new ≡ P.seen p.old }
-    ensures parts { P.parts p.new ≡ P.parts p.old }
-    ensures cells { P.struck p.new ≡ after_registers P.read_cell (P.parts p.old) a.now.ctl.cwp (src_registers src) (P.struck p.old) }
+    ensures parts { P.answers (P.state p.new) ≡ P.answers (P.state p.old) }
+    ensures touches { P.state p.new ≡ fold P.touch (P.state p.old) (reads_of (P.answers (P.state p.old)) a.now.ctl.cwp (src_registers src)) }
     ensures room { P.room p.old ≤ P.room p.new }
 {
     match src {
@@ -71,10 +72,10 @@ pub fn read_operands<P: Ports>(a: &Arch, rs1: u8, src: Src, p: &mut P) -> Result
     requires register { rs1 < 32 }
     requires fields { IsSource src }
     ensures within { IfErr result (λ bad. bad.cell < 136) }
-    ensures read { ReadsOperands (P.parts p.old) (state_of a.now (P.seen p.old)) rs1 src result }
+    ensures read { ReadsOperands (P.answers (P.state p.old)) (state_of a.now (P.seen p.old)) rs1 src result }
     ensures seen { P.seen p.new ≡ P.seen p.old }
-    ensures parts { P.parts p.new ≡ P.parts p.old }
-    ensures cells { P.struck p.new ≡ after_registers P.read_cell (P.parts p.old) a.now.ctl.cwp (operand_registers rs1 src) (P.struck p.old) }
+    ensures parts { P.answers (P.state p.new) ≡ P.answers (P.state p.old) }
+    ensures touches { P.state p.new ≡ fold P.touch (P.state p.old) (reads_of (P.answers (P.state p.old)) a.now.ctl.cwp (operand_registers rs1 src)) }
     ensures room { P.room p.old ≤ P.room p.new }
 {
     let first = read_register(a, rs1, p)?;
@@ -92,7 +93,7 @@ pub fn write_register<P: Ports>(a: &Arch, n: u8, value: u32, p: &mut P)
     ensures state { state_of a.now (P.seen p.new) ≡ with_register n value (state_of a.now (P.seen p.old)) }
     ensures site { (P.seen p.new).site ≡ (P.seen p.old).site }
     ensures ops { (P.seen p.new).ops ≡ (P.seen p.old).ops }
-    ensures cells { P.struck p.new ≡ after_cells P.write_cell (cell_written (state_of a.now (P.seen p.old)) n) (P.struck p.old) }
+    ensures touches { P.state p.new ≡ fold P.touch (P.state p.old) (write_touches (cell_written (state_of a.now (P.seen p.old)) n)) }
     ensures room { P.room p.old ≤ P.room p.new }
 {
     if n != 0 {
@@ -113,11 +114,11 @@ fn read_number<P: Ports>(a: &Arch, name: MemName, rd: u8, p: &mut P) -> Result<u
     requires register { rd < 32 }
     requires pair { HasPair name rd }
     ensures within { IfErr result (λ bad. bad.cell < 136) }
-    ensures read { ReadsNumber (P.parts p.old) (state_of a.now (P.seen p.old)) (stored_registers name rd) (stored_number name rd (state_of a.now (P.seen p.old))) result }
+    ensures read { ReadsNumber (P.answers (P.state p.old)) (state_of a.now (P.seen p.old)) (stored_registers name rd) (stored_number name rd (state_of a.now (P.seen p.old))) result }
     ensures fits { IfOk result (λ value. value < 2 ^ (8 * size_of name)) }
     ensures seen { P.seen p.new ≡ P.seen p.old }
-    ensures parts { P.parts p.new ≡ P.parts p.old }
-    ensures cells { P.struck p.new ≡ after_registers P.read_cell (P.parts p.old) a.now.ctl.cwp (stored_registers name rd) (P.struck p.old) }
+    ensures parts { P.answers (P.state p.new) ≡ P.answers (P.state p.old) }
+    ensures touches { P.state p.new ≡ fold P.touch (P.state p.old) (reads_of (P.answers (P.state p.old)) a.now.ctl.cwp (stored_registers name rd)) }
     ensures room { P.room p.old ≤ P.room p.new }
 {
     match name {
@@ -130,7 +131,12 @@ fn read_number<P: Ports>(a: &Arch, name: MemName, rd: u8, p: &mut P) -> Result<u
             Ok((first << 32) + second)
         }
         MemName::Ldstub => Ok(0xff),
-        _ => Ok(0),
+        MemName::Ld
+        | MemName::Ldub
+        | MemName::Lduh
+        | MemName::Ldd
+        | MemName::Ldsb
+        | MemName::Ldsh => Ok(0),
     }
 }
 
@@ -148,11 +154,11 @@ pub fn read_request<P: Ports>(
     requires fields { IsSource src }
     requires pair { HasPair name rd }
     ensures within { IfErr result (λ bad. bad.cell < 136) }
-    ensures read { ReadsRequest (P.parts p.old) (state_of a.now (P.seen p.old)) name rd rs1 src result }
+    ensures read { ReadsRequest (P.answers (P.state p.old)) (state_of a.now (P.seen p.old)) name rd rs1 src result }
     ensures fits { IfOk result (λ x. x.value < 2 ^ (8 * size_of name)) }
     ensures seen { P.seen p.new ≡ P.seen p.old }
-    ensures parts { P.parts p.new ≡ P.parts p.old }
-    ensures cells { P.struck p.new ≡ after_registers P.read_cell (P.parts p.old) a.now.ctl.cwp (operand_registers rs1 src ++ stored_registers name rd) (P.struck p.old) }
+    ensures parts { P.answers (P.state p.new) ≡ P.answers (P.state p.old) }
+    ensures touches { P.state p.new ≡ fold P.touch (P.state p.old) (reads_of (P.answers (P.state p.old)) a.now.ctl.cwp (operand_registers rs1 src ++ stored_registers name rd)) }
     ensures room { P.room p.old ≤ P.room p.new }
 {
     let operands = read_operands(a, rs1, src, p)?;

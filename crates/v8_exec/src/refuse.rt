@@ -1,10 +1,11 @@
 //! Instructions that always trap.
 
-ghost use Rattle.std.specs.Prelude.{◌≡◌, not};
+ghost use Rattle.std.specs.Prelude.{◌≡◌, not, Ok};
 ghost use Rattle.lf_model.specs.Traps.{no_checks};
 ghost use Rattle.lf_model.specs.Step.{IsSound};
 ghost use Rattle.lf_model.specs.declared.instruction.Instr.TheVariants.{Illegal, AltIllegal, FpOff, CpOff, FpQueue, CpQueue};
-ghost use Rattle.v8_exec.specs.Frame.{Keeps, Performs, Touches};
+ghost use Rattle.v8_exec.specs.Frame.{Performs, Keeps};
+ghost use Rattle.v8_exec.specs.Touching.{Touches};
 
 use crate::ports::Ports;
 use crate::trap;
@@ -26,9 +27,9 @@ fn privileged(a: &Arch) -> Checks
 #[tactic(auto, unfolding(lf_model::specs::Effects::effect))]
 pub fn illegal<P: Ports>(a: &mut Arch, p: &mut P) -> Did
     requires sound { IsSound a.old }
-    ensures does { Performs Illegal (P.parts p.old) result a.old a.new (P.seen p.old) (P.seen p.new) }
-    ensures cells { Touches P.read_cell P.write_cell Illegal (P.parts p.old) result a.old (P.seen p.old) (P.struck p.old) (P.struck p.new) }
-    ensures keeps { Keeps a.old a.new (P.seen p.old) (P.seen p.new) (P.room p.old) (P.room p.new) }
+    ensures does { Performs Illegal (P.answers (P.state p.old)) result a.old a.new (P.seen p.old) (P.seen p.new) }
+    ensures touches { Touches P.touch Illegal (P.answers (P.state p.old)) (Ok result) a.old (P.seen p.old) (P.state p.old) (P.state p.new) }
+    ensures keeps { Keeps result a.old a.new (P.seen p.old) (P.seen p.new) (P.room p.old) (P.room p.new) }
 {
     let checks = Checks {
         illegal: true,
@@ -41,9 +42,9 @@ pub fn illegal<P: Ports>(a: &mut Arch, p: &mut P) -> Did
 #[tactic(auto, unfolding(lf_model::specs::Effects::effect))]
 pub fn illegal_alternate<P: Ports>(a: &mut Arch, p: &mut P) -> Did
     requires sound { IsSound a.old }
-    ensures does { Performs AltIllegal (P.parts p.old) result a.old a.new (P.seen p.old) (P.seen p.new) }
-    ensures cells { Touches P.read_cell P.write_cell AltIllegal (P.parts p.old) result a.old (P.seen p.old) (P.struck p.old) (P.struck p.new) }
-    ensures keeps { Keeps a.old a.new (P.seen p.old) (P.seen p.new) (P.room p.old) (P.room p.new) }
+    ensures does { Performs AltIllegal (P.answers (P.state p.old)) result a.old a.new (P.seen p.old) (P.seen p.new) }
+    ensures touches { Touches P.touch AltIllegal (P.answers (P.state p.old)) (Ok result) a.old (P.seen p.old) (P.state p.old) (P.state p.new) }
+    ensures keeps { Keeps result a.old a.new (P.seen p.old) (P.seen p.new) (P.room p.old) (P.room p.new) }
 {
     let checks = Checks {
         illegal: true,
@@ -56,9 +57,9 @@ pub fn illegal_alternate<P: Ports>(a: &mut Arch, p: &mut P) -> Did
 #[tactic(auto, unfolding(lf_model::specs::Effects::effect))]
 pub fn floating_point<P: Ports>(a: &mut Arch, p: &mut P) -> Did
     requires sound { IsSound a.old }
-    ensures does { Performs FpOff (P.parts p.old) result a.old a.new (P.seen p.old) (P.seen p.new) }
-    ensures cells { Touches P.read_cell P.write_cell FpOff (P.parts p.old) result a.old (P.seen p.old) (P.struck p.old) (P.struck p.new) }
-    ensures keeps { Keeps a.old a.new (P.seen p.old) (P.seen p.new) (P.room p.old) (P.room p.new) }
+    ensures does { Performs FpOff (P.answers (P.state p.old)) result a.old a.new (P.seen p.old) (P.seen p.new) }
+    ensures touches { Touches P.touch FpOff (P.answers (P.state p.old)) (Ok result) a.old (P.seen p.old) (P.state p.old) (P.state p.new) }
+    ensures keeps { Keeps result a.old a.new (P.seen p.old) (P.seen p.new) (P.room p.old) (P.room p.new) }
 {
     let checks = Checks {
         fp_off: true,
@@ -71,9 +72,9 @@ pub fn floating_point<P: Ports>(a: &mut Arch, p: &mut P) -> Did
 #[tactic(auto, unfolding(lf_model::specs::Effects::effect))]
 pub fn floating_point_queue<P: Ports>(a: &mut Arch, p: &mut P) -> Did
     requires sound { IsSound a.old }
-    ensures does { Performs FpQueue (P.parts p.old) result a.old a.new (P.seen p.old) (P.seen p.new) }
-    ensures cells { Touches P.read_cell P.write_cell FpQueue (P.parts p.old) result a.old (P.seen p.old) (P.struck p.old) (P.struck p.new) }
-    ensures keeps { Keeps a.old a.new (P.seen p.old) (P.seen p.new) (P.room p.old) (P.room p.new) }
+    ensures does { Performs FpQueue (P.answers (P.state p.old)) result a.old a.new (P.seen p.old) (P.seen p.new) }
+    ensures touches { Touches P.touch FpQueue (P.answers (P.state p.old)) (Ok result) a.old (P.seen p.old) (P.state p.old) (P.state p.new) }
+    ensures keeps { Keeps result a.old a.new (P.seen p.old) (P.seen p.new) (P.room p.old) (P.room p.new) }
 {
     let checks = Checks {
         fp_off: true,
@@ -86,9 +87,9 @@ pub fn floating_point_queue<P: Ports>(a: &mut Arch, p: &mut P) -> Did
 #[tactic(auto, unfolding(lf_model::specs::Effects::effect))]
 pub fn coprocessor<P: Ports>(a: &mut Arch, p: &mut P) -> Did
     requires sound { IsSound a.old }
-    ensures does { Performs CpOff (P.parts p.old) result a.old a.new (P.seen p.old) (P.seen p.new) }
-    ensures cells { Touches P.read_cell P.write_cell CpOff (P.parts p.old) result a.old (P.seen p.old) (P.struck p.old) (P.struck p.new) }
-    ensures keeps { Keeps a.old a.new (P.seen p.old) (P.seen p.new) (P.room p.old) (P.room p.new) }
+    ensures does { Performs CpOff (P.answers (P.state p.old)) result a.old a.new (P.seen p.old) (P.seen p.new) }
+    ensures touches { Touches P.touch CpOff (P.answers (P.state p.old)) (Ok result) a.old (P.seen p.old) (P.state p.old) (P.state p.new) }
+    ensures keeps { Keeps result a.old a.new (P.seen p.old) (P.seen p.new) (P.room p.old) (P.room p.new) }
 {
     let checks = Checks {
         cp_off: true,
@@ -101,9 +102,9 @@ pub fn coprocessor<P: Ports>(a: &mut Arch, p: &mut P) -> Did
 #[tactic(auto, unfolding(lf_model::specs::Effects::effect))]
 pub fn coprocessor_queue<P: Ports>(a: &mut Arch, p: &mut P) -> Did
     requires sound { IsSound a.old }
-    ensures does { Performs CpQueue (P.parts p.old) result a.old a.new (P.seen p.old) (P.seen p.new) }
-    ensures cells { Touches P.read_cell P.write_cell CpQueue (P.parts p.old) result a.old (P.seen p.old) (P.struck p.old) (P.struck p.new) }
-    ensures keeps { Keeps a.old a.new (P.seen p.old) (P.seen p.new) (P.room p.old) (P.room p.new) }
+    ensures does { Performs CpQueue (P.answers (P.state p.old)) result a.old a.new (P.seen p.old) (P.seen p.new) }
+    ensures touches { Touches P.touch CpQueue (P.answers (P.state p.old)) (Ok result) a.old (P.seen p.old) (P.state p.old) (P.state p.new) }
+    ensures keeps { Keeps result a.old a.new (P.seen p.old) (P.seen p.new) (P.room p.old) (P.room p.new) }
 {
     let checks = Checks {
         cp_off: true,

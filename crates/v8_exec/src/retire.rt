@@ -1,11 +1,10 @@
-ghost use Rattle.std.specs.Prelude.{◌≡◌, ◌<◌, ◌≤◌, ◌+◌, ◌^◌, ℕ};
-ghost use Rattle.lf_model.specs.CellAccess.{after_cells};
+ghost use Rattle.std.specs.Prelude.{◌≡◌, ◌<◌, ◌≤◌, ◌+◌, ◌^◌, ℕ, fold};
+ghost use Rattle.lf_model.specs.Course.Touches.{write_touches};
 ghost use Rattle.lf_model.specs.Effect.{cell_written};
 ghost use Rattle.lf_model.specs.State.{advanced, with_register};
 ghost use Rattle.lf_model.specs.Step.{IsSound, Parts, state_of};
 ghost use Rattle.lf_model.specs.declared.instruction.Instr.{Instr};
-ghost use Rattle.lf_model.specs.declared.step.Turn.TheVariants.{Atomic};
-ghost use Rattle.v8_exec.specs.Accesses.{Finishes, WritesAtEnd};
+ghost use Rattle.v8_exec.specs.Accesses.{atomic_access, Finishes, WritesAtEnd};
 
 use crate::operands::write_register;
 use crate::ports::Ports;
@@ -22,7 +21,7 @@ pub fn retire_with<P: Ports>(a: &mut Arch, rd: u8, value: u32, p: &mut P)
     ensures counts { (a.new.core ≡ a.old.core) × (a.new.n ≡ a.old.n) × (a.new.k ≡ a.old.k + 1) }
     ensures site { (P.seen p.new).site ≡ (P.seen p.old).site }
     ensures ops { (P.seen p.new).ops ≡ (P.seen p.old).ops }
-    ensures cells { P.struck p.new ≡ after_cells P.write_cell (cell_written (state_of a.old (P.seen p.old)) rd) (P.struck p.old) }
+    ensures touches { P.state p.new ≡ fold P.touch (P.state p.old) (write_touches (cell_written (state_of a.old (P.seen p.old)) rd)) }
     ensures room { P.room p.old ≤ P.room p.new }
 {
     write_register(a, rd, value, p);
@@ -37,13 +36,13 @@ pub fn finish_atomic<P: Ports>(a: &mut Arch, rd: u8, got: u32, p: &mut P)
     requires instructions { a.old.n + 1 < 2 ^ 32 }
     requires operations { a.old.k + 1 < 2 ^ 32 }
     requires register { rd < 32 }
-    ensures finishes { (i : Instr) (parts : Parts) (addr len new : ℕ) → Finishes i parts (Atomic addr len new rd) got a.old a.new (P.seen p.old) (P.seen p.new) }
+    ensures finishes { (i : Instr) (parts : Parts) (addr len new : ℕ) → Finishes i parts (atomic_access addr len new rd) got a.old a.new (P.seen p.old) (P.seen p.new) }
     ensures state { state_of a.new (P.seen p.new) ≡ advanced (with_register rd got (state_of a.old (P.seen p.old))) }
     ensures sound { IsSound a.new }
     ensures counts { (a.new.core ≡ a.old.core) × (a.new.n ≡ a.old.n + 1) × (a.new.k ≡ a.old.k + 1) }
     ensures site { (P.seen p.new).site ≡ (P.seen p.old).site }
     ensures ops { (P.seen p.new).ops ≡ (P.seen p.old).ops }
-    ensures cells { (i : Instr) (parts : Parts) (addr len new : ℕ) → WritesAtEnd P.write_cell i parts (Atomic addr len new rd) a.old (P.seen p.old) (P.struck p.old) (P.struck p.new) }
+    ensures touches { (i : Instr) (parts : Parts) (addr len new : ℕ) → WritesAtEnd P.touch i parts (atomic_access addr len new rd) a.old (P.seen p.old) (P.state p.old) (P.state p.new) }
     ensures room { P.room p.old ≤ P.room p.new }
 {
     retire_with(a, rd, got, p);

@@ -1,11 +1,12 @@
-ghost use Rattle.std.specs.Prelude.{◌≡◌, ◌<◌, ◌+◌, ◌*◌, ◌%◌, ◌^◌, false};
+ghost use Rattle.std.specs.Prelude.{◌≡◌, ◌<◌, ◌+◌, ◌*◌, ◌%◌, ◌^◌, false, IfOk, IfErr, Ok};
 ghost use Rattle.lf_model.specs.Fields.{bits_of};
-ghost use Rattle.lf_model.specs.Instructions.{is_privileged_state};
+ghost use Rattle.lf_model.specs.Instructions.{is_privileged_state, registers_read};
 ghost use Rattle.lf_model.specs.StateRegisters.{asr_value, state_value, names_no_window, psr_parts, with_state};
-ghost use Rattle.lf_model.specs.Step.{IsSound, Seen, state_of};
+ghost use Rattle.lf_model.specs.Step.{IsSound, Seen, state_of, first_bad};
 ghost use Rattle.lf_model.specs.declared.instruction.Instr.TheVariants.{ReadState, ReadAsr, WriteState, WriteAsr};
-ghost use Rattle.v8_exec.specs.Frame.{Keeps, Performs, Touches};
+ghost use Rattle.v8_exec.specs.Frame.{bad_in, Performs, Keeps, Refuses};
 ghost use Rattle.v8_exec.specs.Reading.{IsSource};
+ghost use Rattle.v8_exec.specs.Touching.{Touches};
 
 use crate::operands::{read_operands, write_register};
 use crate::ports::Ports;
@@ -13,7 +14,7 @@ use crate::program_counter::advance;
 use crate::trap;
 use lf_model::control::{Arch, Ctl};
 use lf_model::instruction::{Src, StateName};
-use lf_model::step::Did;
+use lf_model::step::{Did, RegBad};
 use lf_model::trap::Checks;
 use v8_traps::first_trap;
 
@@ -62,16 +63,16 @@ fn value_of(a: &Arch, name: StateName) -> u32
 pub fn read<P: Ports>(a: &mut Arch, name: StateName, rd: u8, p: &mut P) -> Did
     requires sound { IsSound a.old }
     requires register { rd < 32 }
-    ensures does { Performs (ReadState name rd) (P.parts p.old) result a.old a.new (P.seen p.old) (P.seen p.new) }
-    ensures cells { Touches P.read_cell P.write_cell (ReadState name rd) (P.parts p.old) result a.old (P.seen p.old) (P.struck p.old) (P.struck p.new) }
-    ensures keeps { Keeps a.old a.new (P.seen p.old) (P.seen p.new) (P.room p.old) (P.room p.new) }
+    ensures does { Performs (ReadState name rd) (P.answers (P.state p.old)) result a.old a.new (P.seen p.old) (P.seen p.new) }
+    ensures touches { Touches P.touch (ReadState name rd) (P.answers (P.state p.old)) (Ok result) a.old (P.seen p.old) (P.state p.old) (P.state p.new) }
+    ensures keeps { Keeps result a.old a.new (P.seen p.old) (P.seen p.new) (P.room p.old) (P.room p.new) }
 {
     let checks = Checks {
         privileged: is_privileged(name) && !a.ctl.s,
         ..Checks::default()
     };
     if let Some(tt) = first_trap(&checks) {
-        return trap::take_unread(a, tt, p);
+        return trap::take(a, tt, p);
     }
     write_register(a, rd, value_of(a, name), p);
     advance(a);
@@ -84,9 +85,9 @@ pub fn read_asr<P: Ports>(a: &mut Arch, rd: u8, number: u8, p: &mut P) -> Did
     requires sound { IsSound a.old }
     requires core { a.old.core ≡ (P.seen p.old).site.core }
     requires register { rd < 32 }
-    ensures does { Performs (ReadAsr rd number) (P.parts p.old) result a.old a.new (P.seen p.old) (P.seen p.new) }
-    ensures cells { Touches P.read_cell P.write_cell (ReadAsr rd number) (P.parts p.old) result a.old (P.seen p.old) (P.struck p.old) (P.struck p.new) }
-    ensures keeps { Keeps a.old a.new (P.seen p.old) (P.seen p.new) (P.room p.old) (P.room p.new) }
+    ensures does { Performs (ReadAsr rd number) (P.answers (P.state p.old)) result a.old a.new (P.seen p.old) (P.seen p.new) }
+    ensures touches { Touches P.touch (ReadAsr rd number) (P.answers (P.state p.old)) (Ok result) a.old (P.seen p.old) (P.state p.old) (P.state p.new) }
+    ensures keeps { Keeps result a.old a.new (P.seen p.old) (P.seen p.new) (P.room p.old) (P.room p.new) }
 {
     write_register(a, rd, asr_value(a.core, number), p);
     advance(a);
@@ -140,44 +141,56 @@ fn set_state(a: &mut Arch, name: StateName, value: u32)
 
 /// WRY, WRPSR, WRWIM and WRTBR: a state register becomes the first operand xor the second.
 #[tactic(auto, unfolding(lf_model::specs::Effects::effect))]
-pub fn write<P: Ports>(a: &mut Arch, name: StateName, rs1: u8, src: Src, p: &mut P) -> Did
+pub fn write<P: Ports>(
+    a: &mut Arch,
+    name: StateName,
+    rs1: u8,
+    src: Src,
+    p: &mut P,
+) -> Result<Did, RegBad>
     requires sound { IsSound a.old }
     requires register { rs1 < 32 }
     requires fields { IsSource src }
-    ensures does { Performs (WriteState name rs1 src) (P.parts p.old) result a.old a.new (P.seen p.old) (P.seen p.new) }
-    ensures cells { Touches P.read_cell P.write_cell (WriteState name rs1 src) (P.parts p.old) result a.old (P.seen p.old) (P.struck p.old) (P.struck p.new) }
-    ensures keeps { Keeps a.old a.new (P.seen p.old) (P.seen p.new) (P.room p.old) (P.room p.new) }
+    ensures read { first_bad (P.answers (P.state p.old)) a.old.ctl.cwp (registers_read (WriteState name rs1 src)) ≡ bad_in result }
+    ensures does { IfOk result (λ did. Performs (WriteState name rs1 src) (P.answers (P.state p.old)) did a.old a.new (P.seen p.old) (P.seen p.new)) }
+    ensures touches { Touches P.touch (WriteState name rs1 src) (P.answers (P.state p.old)) result a.old (P.seen p.old) (P.state p.old) (P.state p.new) }
+    ensures keeps { IfOk result (λ did. Keeps did a.old a.new (P.seen p.old) (P.seen p.new) (P.room p.old) (P.room p.new)) }
+    ensures refuses { IfErr result (λ bad. Refuses bad a.old a.new (P.seen p.old) (P.seen p.new) (P.answers (P.state p.old)) (P.answers (P.state p.new)) (P.room p.old) (P.room p.new)) }
 {
-    let value = match read_operands(a, rs1, src, p) {
-        Ok(x) => x.a ^ x.b,
-        Err(bad) => return trap::stop(bad, p),
-    };
+    let x = read_operands(a, rs1, src, p)?;
+    let value = x.a ^ x.b;
     let checks = Checks {
         privileged: is_privileged(name) && !a.ctl.s,
         illegal: names_no_window(name, value),
         ..Checks::default()
     };
     if let Some(tt) = first_trap(&checks) {
-        return trap::take(a, tt, p);
+        return Ok(trap::take(a, tt, p));
     }
     set_state(a, name, value);
     advance(a);
-    Did::Retired
+    Ok(Did::Retired)
 }
 
 /// WRASR, which has no effect but that its operands are read.
 #[tactic(auto, unfolding(lf_model::specs::Effects::effect))]
-pub fn write_asr<P: Ports>(a: &mut Arch, number: u8, rs1: u8, src: Src, p: &mut P) -> Did
+pub fn write_asr<P: Ports>(
+    a: &mut Arch,
+    number: u8,
+    rs1: u8,
+    src: Src,
+    p: &mut P,
+) -> Result<Did, RegBad>
     requires sound { IsSound a.old }
     requires register { rs1 < 32 }
     requires fields { IsSource src }
-    ensures does { Performs (WriteAsr number rs1 src) (P.parts p.old) result a.old a.new (P.seen p.old) (P.seen p.new) }
-    ensures cells { Touches P.read_cell P.write_cell (WriteAsr number rs1 src) (P.parts p.old) result a.old (P.seen p.old) (P.struck p.old) (P.struck p.new) }
-    ensures keeps { Keeps a.old a.new (P.seen p.old) (P.seen p.new) (P.room p.old) (P.room p.new) }
+    ensures read { first_bad (P.answers (P.state p.old)) a.old.ctl.cwp (registers_read (WriteAsr number rs1 src)) ≡ bad_in result }
+    ensures does { IfOk result (λ did. Performs (WriteAsr number rs1 src) (P.answers (P.state p.old)) did a.old a.new (P.seen p.old) (P.seen p.new)) }
+    ensures touches { Touches P.touch (WriteAsr number rs1 src) (P.answers (P.state p.old)) result a.old (P.seen p.old) (P.state p.old) (P.state p.new) }
+    ensures keeps { IfOk result (λ did. Keeps did a.old a.new (P.seen p.old) (P.seen p.new) (P.room p.old) (P.room p.new)) }
+    ensures refuses { IfErr result (λ bad. Refuses bad a.old a.new (P.seen p.old) (P.seen p.new) (P.answers (P.state p.old)) (P.answers (P.state p.new)) (P.room p.old) (P.room p.new)) }
 {
-    if let Err(bad) = read_operands(a, rs1, src, p) {
-        return trap::stop(bad, p);
-    }
+    read_operands(a, rs1, src, p)?;
     advance(a);
-    Did::Retired
+    Ok(Did::Retired)
 }

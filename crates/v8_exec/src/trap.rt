@@ -1,12 +1,12 @@
-ghost use Rattle.std.specs.Prelude.{◌≡◌, ◌<◌, List, ℕ, Some, IsSome};
-ghost use Rattle.lf_model.specs.CellAccess.{cells_after, written_by};
+ghost use Rattle.std.specs.Prelude.{◌≡◌, ◌<◌, [], fold, ℕ, Some, IsSome};
 ghost use Rattle.lf_model.specs.Traps.{trap_effect, traps_in_order, unless_trap};
 ghost use Rattle.lf_model.specs.Traps.{first_trap as first_of};
-ghost use Rattle.lf_model.specs.Step.{IsSound, state_of, run_seen, drains_first, Does};
+ghost use Rattle.lf_model.specs.Step.{IsSound, state_of, drains_first};
 ghost use Rattle.lf_model.specs.declared.bus.Why.TheVariants.{End};
-ghost use Rattle.lf_model.specs.Effect.{Site, advances};
+ghost use Rattle.lf_model.specs.Effect.{Site, Effect, advances};
 ghost use Rattle.v8_exec.specs.Accesses.{Asks};
-ghost use Rattle.v8_exec.specs.Frame.{Keeps, Makes};
+ghost use Rattle.v8_exec.specs.Frame.{Makes, Keeps};
+ghost use Rattle.v8_exec.specs.Touching.{acts_of, retires_of};
 
 use crate::ports::Ports;
 use lf_model::bus::Why;
@@ -21,7 +21,7 @@ const REGISTER_ERROR: u8 = 0x20;
 
 /// Where a store waits, its drain comes before this end.
 fn end_of<P: Ports>(did: Did, p: &P) -> Did
-    ensures { result ≡ drains_first (P.parts p.now) End did }
+    ensures { result ≡ drains_first (P.answers (P.state p.now)) End did }
 {
     if p.waiting() {
         Did::Need(Turn::Drain(Why::End))
@@ -33,8 +33,8 @@ fn end_of<P: Ports>(did: Did, p: &P) -> Did
 /// A register read is bad: the core stops, or drains first.
 pub fn stop<P: Ports>(bad: RegBad, p: &P) -> Did
     requires { bad.cell < 136 }
-    ensures stop { result ≡ drains_first (P.parts p.now) End (Did.Stop 0x20 bad.cell bad.syn) }
-    ensures unwritten { (cells : List ℕ) → written_by P.write_cell result cells (P.struck p.now) ≡ P.struck p.now }
+    ensures stop { result ≡ drains_first (P.answers (P.state p.now)) End (Did.Stop 0x20 bad.cell bad.syn) }
+    ensures unretired { (e : Effect) → retires_of e result ≡ [] }
 {
     let stop = Did::Stop {
         tt: REGISTER_ERROR,
@@ -48,9 +48,9 @@ pub fn stop<P: Ports>(bad: RegBad, p: &P) -> Did
 /// instruction read were good.
 pub fn take<P: Ports>(a: &mut Arch, tt: u8, p: &mut P) -> Did
     requires sound { IsSound a.old }
-    ensures does { Makes (trap_effect tt (state_of a.old (P.seen p.old))) (P.parts p.old) result a.old a.new (P.seen p.old) (P.seen p.new) }
-    ensures cells { P.struck p.new ≡ written_by P.write_cell result (trap_effect tt (state_of a.old (P.seen p.old))).writes (P.struck p.old) }
-    ensures keeps { Keeps a.old a.new (P.seen p.old) (P.seen p.new) (P.room p.old) (P.room p.new) }
+    ensures does { Makes (trap_effect tt (state_of a.old (P.seen p.old))) (P.answers (P.state p.old)) result a.old a.new (P.seen p.old) (P.seen p.new) }
+    ensures touches { P.state p.new ≡ fold P.touch (P.state p.old) (acts_of (trap_effect tt (state_of a.old (P.seen p.old))) result) }
+    ensures keeps { Keeps result a.old a.new (P.seen p.old) (P.seen p.new) (P.room p.old) (P.room p.new) }
     ensures turn { (site : Site) → Asks site result }
 {
     match v8_traps::enter(&mut a.ctl, tt) {
@@ -63,26 +63,16 @@ pub fn take<P: Ports>(a: &mut Arch, tt: u8, p: &mut P) -> Did
     }
 }
 
-/// An ordinary trap of an instruction that reads no register.
-pub fn take_unread<P: Ports>(a: &mut Arch, tt: u8, p: &mut P) -> Did
-    requires sound { IsSound a.old }
-    ensures does { Does (P.seen p.old).site.core (P.parts p.old) (trap_effect tt (state_of a.old (P.seen p.old))) result (run_seen a.old (P.seen p.old)) (run_seen a.new (P.seen p.new)) }
-    ensures cells { P.struck p.new ≡ cells_after P.read_cell P.write_cell (P.parts p.old) a.old.ctl.cwp (trap_effect tt (state_of a.old (P.seen p.old))) result (P.struck p.old) }
-    ensures keeps { Keeps a.old a.new (P.seen p.old) (P.seen p.new) (P.room p.old) (P.room p.new) }
-{
-    take(a, tt, p)
-}
-
 /// The trap of an instruction that reads no register and always traps.
 pub fn refuse<P: Ports>(a: &mut Arch, checks: Checks, p: &mut P) -> Did
     requires sound { IsSound a.old }
     requires trap { IsSome (first_of (traps_in_order checks)) }
-    ensures does { (tt_ : ℕ) → first_of (traps_in_order checks) ≡ Some tt_ → Does (P.seen p.old).site.core (P.parts p.old) (trap_effect tt_ (state_of a.old (P.seen p.old))) result (run_seen a.old (P.seen p.old)) (run_seen a.new (P.seen p.new)) }
-    ensures cells { P.struck p.new ≡ cells_after P.read_cell P.write_cell (P.parts p.old) a.old.ctl.cwp (unless_trap (first_of (traps_in_order checks)) (state_of a.old (P.seen p.old)) (advances (state_of a.old (P.seen p.old)))) result (P.struck p.old) }
-    ensures keeps { Keeps a.old a.new (P.seen p.old) (P.seen p.new) (P.room p.old) (P.room p.new) }
+    ensures does { (tt_ : ℕ) → first_of (traps_in_order checks) ≡ Some tt_ → Makes (trap_effect tt_ (state_of a.old (P.seen p.old))) (P.answers (P.state p.old)) result a.old a.new (P.seen p.old) (P.seen p.new) }
+    ensures touches { P.state p.new ≡ fold P.touch (P.state p.old) (acts_of (unless_trap (first_of (traps_in_order checks)) (state_of a.old (P.seen p.old)) (advances (state_of a.old (P.seen p.old)))) result) }
+    ensures keeps { Keeps result a.old a.new (P.seen p.old) (P.seen p.new) (P.room p.old) (P.room p.new) }
 {
     match first_trap(&checks) {
-        Some(tt) => take_unread(a, tt, p),
+        Some(tt) => take(a, tt, p),
         None => unreachable!(),
     }
 }

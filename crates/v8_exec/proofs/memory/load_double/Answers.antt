@@ -4,11 +4,11 @@ use Rattle.v8_exec.proofs.LoadLemmas.{load_double_does, operation_keeps}
 use Rattle.v8_exec.proofs.memory.load_double.Goals as goal
 
 pub returns-in-Ok-clause-does : goal.returns-in-Ok-clause-does
-returns-in-Ok-clause-does g c registers good =
+returns-in-Ok-clause-does g c =
     load_double_does (g.P.Ports.seen c.args.p.now) (g.P.Ports.seen c.look.new.p) (g.P.Ports.seen c.write_register.new.p) (g.P.Ports.seen c.retire_with.new.p)
-    (g.P.Ports.parts c.args.p.now) c.args.a.now c.retire_with.new.a c.args.addr c.args.rd c.in-Ok.value _ _ registers
+    (g.P.Ports.answers (g.P.Ports.state c.args.p.now)) c.args.a.now c.retire_with.new.a c.args.addr c.args.rd c.in-Ok.value _ _
     c.in-Ok.ensures.looks refl refl c.write_register.ensures.state c.write_register.ensures.ops
-    c.retire_with.ensures.state c.retire_with.ensures.ops good
+    c.retire_with.ensures.state c.retire_with.ensures.ops
 
 pub returns-in-Ok-clause-keeps : goal.returns-in-Ok-clause-keeps
 returns-in-Ok-clause-keeps g c =
@@ -17,4 +17,4 @@ returns-in-Ok-clause-keeps g c =
     (g.P.Ports.room c.args.p.now) (g.P.Ports.room c.look.new.p) (g.P.Ports.room c.retire_with.new.p)
     (c.in-Ok.ensures.looks.made 0) (c.retire_with.ensures.ops ∙ c.write_register.ensures.ops) (c.retire_with.ensures.site ∙ c.write_register.ensures.site)
     c.retire_with.ensures.sound c.retire_with.ensures.counts.0 c.retire_with.ensures.counts.1 c.retire_with.ensures.counts.2
-    c.look.ensures.room (omega (arith, c.write_register.ensures.room, c.retire_with.ensures.room))
+    c.in-Ok.ensures.room (omega (arith, c.write_register.ensures.room, c.retire_with.ensures.room))
