@@ -1,1 +1,5 @@
 pub mod SetLemmas
+pub mod KeepLemmas
+pub mod UnitLemmas
+pub mod CleanLemmas
+pub mod VictimLemmas

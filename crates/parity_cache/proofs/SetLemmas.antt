@@ -14,7 +14,7 @@ use Rattle.lf_model.specs.declared.config.Shape.{Shape}
 use Rattle.parity_slots.specs.SlotState.{value_at}
 use Rattle.parity_slots.proofs.RangeLemmas.{range_more}
 use Rattle.parity_cache.specs.CacheState.{CacheState, line_at, with_cache, answer_of, victim_by, filled_in, filled_cache, stored_by, stored_cache}
-use Rattle.parity_cache.specs.declared.look.Look.TheVariants.{Hit}
+use Rattle.lf_model.specs.declared.step.Look.TheVariants.{Hit}
 
 -- ---- the first slot of a set that passes a test
 
@@ -54,7 +54,7 @@ pub checked_step : (k : Checked) (i : ℕ)
 checked_step k i = joined (has_struck_tag (slot_at i k.cache)) k (record (with_slot dropped_by_tag i k.cache) { tag_errors = raised k.cache.tag_errors })
 
 -- a tag that was written has no struck byte
-written_tag : (hs : List (List Moment)) → list_any is_struck_byte (map written hs) ≡ false
+pub written_tag : (hs : List (List Moment)) → list_any is_struck_byte (map written hs) ≡ false
 written_tag [] = refl
 written_tag (h ∷ hs) = written_tag hs
 

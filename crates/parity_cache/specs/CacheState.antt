@@ -1,18 +1,16 @@
 -- A cache with the bytes of its lines.
-use Rattle.std.specs.Prelude.{◌≡◌, ℕ, ◌+◌, ◌*◌, ◌/◌, ◌%◌, ◌<◌, false, if◌then◌else◌, ◌≤◌, [], List, Option, Some, None, not, find, fold, unwrap_or, replicate, slice_index_or, slice_set}
+use Rattle.std.specs.Prelude.{◌≡◌, ℕ, ◌+◌, ◌*◌, ◌/◌, ◌%◌, ◌<◌, ◌≤◌, ◌==◌, Bool, true, false, List, [], ◌∷◌, Option, Some, None, not, find, fold, unwrap_or, replicate, slice_index_or, slice_set}
+use Rattle.std.specs.List.{list_any}
 use Rattle.std.specs.Option.{option_or}
 use Rattle.lf_model.specs.Caches.Cache.{Cache, empty_cache, slot_at, with_slot, set_of, matching, way_of, used}
 use Rattle.lf_model.specs.Caches.Change.{stored_bytes, update_by, updated, older, victim, filled}
 use Rattle.lf_model.specs.Caches.Look.{LookUp, checked}
 use Rattle.lf_model.specs.Caches.Look.LookUp.{Hit as Hits, Miss as Misses}
-use Rattle.lf_model.specs.Caches.Slot.{history_at, is_present, filled_slot, has_struck_tag}
-use Rattle.lf_model.specs.Course.Arrays.{struck_tag, struck_line}
-use Rattle.lf_model.specs.Flips.{Moment}
+use Rattle.lf_model.specs.Caches.Slot.{is_present, filled_slot, has_struck_tag}
 use Rattle.lf_model.specs.declared.config.Shape.{Shape}
 use Rattle.parity_slots.specs.SlotState.{bytes_of, value_at, bytes_stored}
-use Rattle.parity_cache.specs.declared.look.Look.{Look}
-use Rattle.parity_cache.specs.declared.look.Unit.{Unit}
-use Rattle.parity_cache.specs.declared.look.Look.TheVariants.{Hit, Miss}
+use Rattle.lf_model.specs.declared.step.Look.{Look}
+use Rattle.lf_model.specs.declared.step.Look.TheVariants.{Hit, Miss}
 
 -- lines: the bytes last written to the line of each slot; flips: how many the script has
 pub record CacheState : Type 0 where
@@ -20,12 +18,15 @@ pub record CacheState : Type 0 where
   pub lines : List (List ℕ)
   pub flips : ℕ
 
+-- the sets that each way of a cache may have
+abbrev pub is_number_of_sets : ℕ → Bool
+is_number_of_sets n = list_any (λ sets. n == sets) (8 ∷ 16 ∷ 32 ∷ 64 ∷ 128 ∷ 256 ∷ [])
+
 -- one to four ways of 8 to 256 sets
 pub record IsCacheShape (shape : Shape) : Type 0 where
   pub some_way : 1 ≤ shape.ways
   pub few_ways : shape.ways ≤ 4
-  pub some_set : 1 ≤ shape.sets
-  pub few_sets : shape.sets ≤ 256
+  pub sets : is_number_of_sets shape.sets ≡ true
 
 abbrev pub reset_cache : Shape → ℕ → CacheState
 reset_cache shape flips = record { cache = empty_cache shape; lines = replicate (shape.ways * shape.sets) (replicate 32 0); flips = flips }
@@ -69,20 +70,3 @@ stored_cache addr len value s = let checked_state = with_cache (checked addr s.c
 -- no tag byte of the set of an address is struck
 abbrev pub IsCleanSet : ℕ → Cache → Type 0
 IsCleanSet addr cache = (way : ℕ) → way < cache.shape.ways → has_struck_tag (slot_at (addr / 32 % cache.shape.sets * cache.shape.ways + way) cache) ≡ false
-
--- ---- units
-
--- a unit of a cache of this shape
-pub record IsUnit (at : Unit) (cache : Cache) : Type 0 where
-  pub way_fits : at.way < cache.shape.ways
-  pub set_fits : at.set < cache.shape.sets
-  pub byte_fits : at.byte < (if at.tag then 4 else 32)
-
-abbrev pub slot_of_unit : Unit → Cache → ℕ
-slot_of_unit at cache = at.set * cache.shape.ways + at.way
-
-abbrev pub history_of_unit : Unit → Cache → List Moment
-history_of_unit at cache = let slot = slot_at (slot_of_unit at cache) cache in history_at at.byte (if at.tag then slot.tag_histories else slot.line_histories)
-
-abbrev pub struck_at : ℕ → ℕ → Unit → Cache → Cache
-struck_at number bit at cache = if at.tag then struck_tag number bit at.way at.set at.byte cache else struck_line number bit at.way at.set at.byte cache

@@ -12,6 +12,8 @@ seen c = record {
 
 pub record IsKept (c : Inside) : Type 0 where
   pub shape : IsCacheShape c.shape
+  pub some_set : 1 ≤ c.shape.sets
+  pub few_sets : c.shape.sets ≤ 256
   pub slots : length c.slots.slots ≡ c.shape.ways * c.shape.sets
   pub tag_errors : c.tag_errors ≤ 3
   pub byte_errors : c.byte_errors ≤ 3

@@ -1,2 +1,4 @@
 pub mod CacheState
+pub mod CacheUnits
+pub mod Keeps
 pub mod Kept

@@ -7,16 +7,18 @@ ghost use Rattle.lf_model.specs.Caches.Slot.{holds, is_present, has_struck_tag, 
 ghost use Rattle.lf_model.specs.Fates.{fate_of};
 ghost use Rattle.lf_model.specs.Flips.{byte_budget};
 ghost use Rattle.lf_model.specs.declared.trace.Fate.TheVariants.{Late};
-ghost use Rattle.parity_cache.specs.CacheState.{IsCacheShape, reset_cache, with_cache, answer_of, filled_in, filled_cache, stored_by, stored_cache, victim_by, IsUnit, slot_of_unit, history_of_unit, struck_at, IsCleanSet};
+ghost use Rattle.parity_cache.specs.CacheState.{IsCacheShape, reset_cache, with_cache, answer_of, filled_in, filled_cache, stored_by, stored_cache, victim_by, IsCleanSet};
+ghost use Rattle.parity_cache.specs.CacheUnits.{IsUnit, slot_of_unit, history_of_unit, struck_at, IsToCome};
+ghost use Rattle.parity_cache.specs.declared.unit.Unit.{Unit};
+ghost use Rattle.parity_cache.specs.Keeps.{Keeps, FitsIn, StaysClean};
 ghost use Rattle.parity_slots.specs.SlotState.{IsAccess, flip_answer};
-ghost use Rattle.parity_slots.specs.SlotsState.{IsToCome};
-ghost use Rattle.parity_slots.specs.Units.{slot_units, histories_of};
 ghost use Rattle.parity_units.specs.Bytes.{byte_bits};
 
-use crate::look::{Counts, Look, Unit};
+use crate::unit::{Counts, Unit};
 use ft_cells::Flipped;
 use lf_model::bus::Why;
 use lf_model::config::Shape;
+use lf_model::step::Look;
 use lf_model::trace::Fate;
 use parity_slots::Slots;
 use std::alloc::{AllocError, Global};
@@ -87,6 +89,7 @@ impl ParityCache {
         ensures first { result ≡ addr / 32 % self.now.cache.shape.sets * self.now.cache.shape.ways }
         ensures within { result + self.now.cache.shape.ways ≤ length self.now.cache.slots }
         ensures some { 1 ≤ self.now.cache.shape.ways }
+        ensures fits { result < 2 ^ 32 }
     {
         (addr / 32 % self.shape.sets * self.shape.ways) as usize
     }
@@ -98,6 +101,7 @@ impl ParityCache {
         requires { i < length self.old.cache.slots }
         ensures struck { result ≡ has_struck_tag (slot_at i self.old.cache) }
         ensures checked { self.new ≡ with_cache (check_way (record { dropped = false; cache = self.old.cache }) i).cache self.old }
+        ensures keeps { Keeps 0 self.old self.new }
     {
         let is_struck = self.slots.slot(i).has_struck_tag();
         if is_struck {
@@ -112,8 +116,9 @@ impl ParityCache {
         ensures dropped { result ≡ (checked addr self.old.cache).dropped }
         ensures checked { self.new ≡ with_cache (checked addr self.old.cache).cache self.old }
         ensures clean { IsCleanSet addr self.new.cache }
-        ensures shape { self.new.cache.shape ≡ self.old.cache.shape }
+        ensures stays { StaysClean self.old.cache self.new.cache }
         ensures uses { self.new.cache.uses ≡ self.old.cache.uses }
+        ensures keeps { Keeps 0 self.old self.new }
     {
         let first = self.first_slot(addr);
         let mut dropped = false;
@@ -143,22 +148,9 @@ impl ParityCache {
         None
     }
 
-    /// The same by the tags as they were last written.
-    fn filled_slot(&self, addr: u32) -> Option<usize>
-        ensures slot { result ≡ matching addr self.now.cache }
-        ensures within { IfSome result (λ i. i < length self.now.cache.slots) }
-    {
-        let first = self.first_slot(addr);
-        for way in 0..self.shape.ways as usize {
-            if self.slots.slot(first + way).was_filled_with(addr) {
-                return Some(first + way);
-            }
-        }
-        None
-    }
-
     /// The lowest slot without a line.
     fn empty_slot(&self, addr: u32) -> Option<usize>
+        requires { IsCleanSet addr self.now.cache }
         ensures slot { result ≡ find (λ i. not (is_present (slot_at i self.now.cache))) (set_of addr self.now.cache) }
         ensures within { IfSome result (λ i. i < length self.now.cache.slots) }
     {
@@ -188,10 +180,11 @@ impl ParityCache {
 
     /// The slot that a fill takes.
     fn victim_slot(&self, addr: u32) -> usize
+        requires { IsCleanSet addr self.now.cache }
         ensures slot { result ≡ victim addr self.now.cache }
         ensures within { result < length self.now.cache.slots }
     {
-        match self.filled_slot(addr) {
+        match self.matching(addr) {
             Some(i) => i,
             None => self.victim_of_others(addr),
         }
@@ -199,6 +192,7 @@ impl ParityCache {
 
     /// The slot that a fill takes where its line is not present.
     fn victim_of_others(&self, addr: u32) -> usize
+        requires { IsCleanSet addr self.now.cache }
         ensures slot { result ≡ victim_by addr self.now.cache None }
         ensures within { result < length self.now.cache.slots }
     {
@@ -212,7 +206,8 @@ impl ParityCache {
     fn use_slot(&mut self, i: usize)
         requires slot { i < length self.old.cache.slots }
         requires room { self.old.cache.uses + 1 < 2 ^ 32 }
-        ensures { self.new ≡ with_cache (used i self.old.cache) self.old }
+        ensures used { self.new ≡ with_cache (used i self.old.cache) self.old }
+        ensures keeps { Keeps 1 self.old self.new }
     {
         self.uses += 1;
         self.slots.set_used(i, self.uses);
@@ -226,6 +221,9 @@ impl ParityCache {
         requires room { self.old.cache.uses + 1 < 2 ^ 32 }
         ensures answer { result ≡ answer_of addr len self.old (look addr len self.old.cache).answer }
         ensures looked { self.new ≡ with_cache (look addr len self.old.cache).cache self.old }
+        ensures clean { IsCleanSet addr self.new.cache }
+        ensures keeps { Keeps 1 self.old self.new }
+        ensures fits { FitsIn len result }
     {
         let dropped = self.check_set(addr);
         match self.matching(addr) {
@@ -242,6 +240,8 @@ impl ParityCache {
         requires room { self.old.cache.uses + 1 < 2 ^ 32 }
         ensures answer { result ≡ answer_of addr len self.old (look_in addr len i self.old.cache).answer }
         ensures looked { self.new ≡ with_cache (look_in addr len i self.old.cache).cache self.old }
+        ensures keeps { Keeps 1 self.old self.new }
+        ensures fits { FitsIn len result }
     {
         if !self.slots.slot(i).has_wanted_words(addr, len) {
             return Look::Miss(Why::Word);
@@ -258,26 +258,30 @@ impl ParityCache {
     }
 
     /// The way of a slot.
-    fn way_of(&self, i: usize) -> u32
+    fn way_of(&self, i: usize) -> u8
         ensures { result ≡ way_of i self.now.cache }
     {
-        (i % self.shape.ways as usize) as u32
+        (i % self.shape.ways as usize) as u8
     }
 
     /// The way that a fill of the line of an address takes: that in which the line is present, else the lowest without a line,
-    /// else the least recently used. It is chosen by the tags as they were last written.
-    pub fn victim(&self, line: u32) -> u32
+    /// else the least recently used. The set was checked, as by a look-up of the address.
+    pub fn victim(&self, line: u32) -> u8
+        requires { IsCleanSet line self.now.cache }
         ensures { result ≡ way_of (victim line self.now.cache) self.now.cache }
     {
         self.way_of(self.victim_slot(line))
     }
 
-    /// Fills the line of an address into its victim, with eight words, and a valid bit for each: bit `j` for word `j`.
-    pub fn fill(&mut self, line: u32, words: &[u32; 8], valid: u8)
-        requires { self.old.cache.uses + 1 < 2 ^ 32 }
-        ensures { self.new ≡ filled_cache line valid words.now self.old }
+    /// Fills the line of an address into the way that `victim` gives, with eight words, and a valid bit for each: bit `j` for
+    /// word `j`.
+    pub fn fill(&mut self, line: u32, way: u8, words: &[u32; 8], valid: u8)
+        requires way { way ≡ way_of (victim line self.old.cache) self.old.cache }
+        requires room { self.old.cache.uses + 1 < 2 ^ 32 }
+        ensures filled { self.new ≡ filled_cache line valid words.now self.old }
+        ensures keeps { Keeps 1 self.old self.new }
     {
-        let i = self.victim_slot(line);
+        let i = self.first_slot(line) + usize::from(way);
         self.fill_slot(i, line, words, valid);
     }
 
@@ -286,7 +290,8 @@ impl ParityCache {
         requires slot { i < length self.old.cache.slots }
         requires words { length words.now ≡ 8 }
         requires room { self.old.cache.uses + 1 < 2 ^ 32 }
-        ensures { self.new ≡ filled_in i line valid words.now self.old }
+        ensures filled { self.new ≡ filled_in i line valid words.now self.old }
+        ensures keeps { Keeps 1 self.old self.new }
     {
         self.slots.fill(i, line, valid, words);
         self.use_slot(i);
@@ -296,7 +301,8 @@ impl ParityCache {
     pub fn update(&mut self, addr: u32, len: u8, value: u64)
         requires access { IsAccess addr len }
         requires room { self.old.cache.uses + 1 < 2 ^ 32 }
-        ensures { self.new ≡ stored_cache addr len value self.old }
+        ensures stored { self.new ≡ stored_cache addr len value self.old }
+        ensures keeps { Keeps 1 self.old self.new }
     {
         self.check_set(addr);
         match self.matching(addr) {
@@ -311,7 +317,8 @@ impl ParityCache {
         requires unstruck { has_struck_tag (slot_at i self.old.cache) ≡ false }
         requires access { IsAccess addr len }
         requires room { self.old.cache.uses + 1 < 2 ^ 32 }
-        ensures { self.new ≡ stored_by addr len value self.old (Some i) }
+        ensures stored { self.new ≡ stored_by addr len value self.old (Some i) }
+        ensures keeps { Keeps 1 self.old self.new }
     {
         self.slots.store(i, addr, len, value);
         self.use_slot(i);
@@ -319,7 +326,9 @@ impl ParityCache {
 
     /// Snoops a store at an address: where its line is present, it is dropped.
     pub fn drop_line(&mut self, addr: u32)
-        ensures { self.new ≡ with_cache (snooped self.old.cache addr) self.old }
+        ensures dropped { self.new ≡ with_cache (snooped self.old.cache addr) self.old }
+        ensures clean { (a : ℕ) → IsCleanSet a self.old.cache → IsCleanSet a self.new.cache }
+        ensures keeps { Keeps 0 self.old self.new }
     {
         self.check_set(addr);
         match self.matching(addr) {
@@ -331,14 +340,16 @@ impl ParityCache {
     /// The line in a slot is dropped.
     fn drop_slot(&mut self, i: usize)
         requires { i < length self.old.cache.slots }
-        ensures { self.new ≡ with_cache (with_slot dropped i self.old.cache) self.old }
+        ensures dropped { self.new ≡ with_cache (with_slot dropped i self.old.cache) self.old }
+        ensures keeps { Keeps 0 self.old self.new }
     {
         self.slots.drop_line(i);
     }
 
     /// Drops every line, without a check (FLUSH).
     pub fn drop_all(&mut self)
-        ensures { self.new ≡ with_cache (flushed self.old.cache) self.old }
+        ensures dropped { self.new ≡ with_cache (flushed self.old.cache) self.old }
+        ensures keeps { Keeps 0 self.old self.new }
     {
         for i in 0..(self.shape.ways * self.shape.sets) as usize {
             self.slots.drop_line(i);
@@ -353,9 +364,10 @@ impl ParityCache {
         requires unit { IsUnit at self.old.cache }
         requires bit { bit < byte_bits }
         requires number { number < self.old.flips }
-        requires once { IsToCome number self.old.cache.slots }
+        requires once { IsToCome number self.old.cache }
         ensures answer { result ≡ flip_answer (history_of_unit at self.old.cache) }
         ensures struck { self.new ≡ with_cache (struck_at number bit at self.old.cache) self.old }
+        ensures keeps { Keeps 0 self.old self.new }
     {
         let i = self.slot_of(at);
         let byte = usize::from(at.byte);
@@ -385,13 +397,12 @@ impl ParityCache {
         }
     }
 
-    /// What became of a flip of the script so far, by its number: late where it struck no unit. Unit `u` of slot `i` is number
-    /// `36 * i + u`, and of a slot the tag bytes are 0 to 3.
+    /// What became of a flip of the script so far, by its number: late where it struck no unit.
     pub fn fate(&self, number: u32) -> Fate
         requires { number < self.now.flips }
-        ensures struck { (unit : ℕ) → unit < slot_units * length self.now.cache.slots → has_struck number (histories_of self.now.cache.slots unit) ≡ true
-            → result ≡ fate_of byte_budget number (histories_of self.now.cache.slots unit) }
-        ensures late { IsToCome number self.now.cache.slots → result ≡ Late }
+        ensures struck { (at : Unit) → IsUnit at self.now.cache → has_struck number (history_of_unit at self.now.cache) ≡ true
+            → result ≡ fate_of byte_budget number (history_of_unit at self.now.cache) }
+        ensures late { IsToCome number self.now.cache → result ≡ Late }
     {
         self.slots.fate(number)
     }

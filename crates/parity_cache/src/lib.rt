@@ -7,7 +7,7 @@
 #![tactic(auto)]
 
 mod cache;
-mod look;
+mod unit;
 
 pub use cache::ParityCache;
-pub use look::{Counts, Look, Unit};
+pub use unit::{Counts, Unit};

@@ -2,7 +2,7 @@
 use Rattle.std.proofs.Common.{◌≡◌, ◌⊎◌, ℕ, zero, suc, ◌+◌, ◌*◌, ◌/◌, ◌%◌, ◌<◌, ◌≤◌, [], ◌∷◌, slice_index_or, Contains, sym, arith, inl, inr}
 use Rattle.parity_slots.specs.SlotState.{IsAccess}
 
-len_cases : (len : ℕ) → Contains (1 ∷ 2 ∷ 4 ∷ 8 ∷ []) len → (len ≡ 1) ⊎ ((len ≡ 2) ⊎ ((len ≡ 4) ⊎ (len ≡ 8)))
+pub len_cases : (len : ℕ) → Contains (1 ∷ 2 ∷ 4 ∷ 8 ∷ []) len → (len ≡ 1) ⊎ ((len ≡ 2) ⊎ ((len ≡ 4) ⊎ (len ≡ 8)))
 len_cases len has = cases has.0 has.1 has.2
   where
     cases : (k : ℕ) → k < 4 → slice_index_or (1 ∷ 2 ∷ 4 ∷ 8 ∷ []) k len ≡ len → (len ≡ 1) ⊎ ((len ≡ 2) ⊎ ((len ≡ 4) ⊎ (len ≡ 8)))

@@ -1,8 +1,11 @@
 pub mod ByteRows
 pub mod UnitLemmas
 pub mod SlotLemmas
+pub mod WordLemmas
+pub mod WordRows
 pub mod AccessLemmas
 pub mod RangeLemmas
 pub mod FillLemmas
+pub mod ValueLemmas
 pub mod StoreLemmas
 pub mod SlotsLemmas

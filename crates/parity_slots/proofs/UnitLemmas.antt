@@ -15,15 +15,15 @@ use Rattle.parity_units.proofs.EventLemmas.{over_below, over_within, over_above}
 
 -- ---- the units of one slot
 
-unit_tag : (slot : Slot) (k : ℕ) → k < 4 → unit_of slot k ≡ history_at k slot.tag_histories
+pub unit_tag : (slot : Slot) (k : ℕ) → k < 4 → unit_of slot k ≡ history_at k slot.tag_histories
 unit_tag slot k lt = ap (λ (b : Bool). cond b (history_at k slot.tag_histories) (history_at (k - 4) slot.line_histories)) (lt-ltb k 4 lt)
 
-unit_line : (slot : Slot) (k : ℕ) → unit_of slot (k + 4) ≡ history_at k slot.line_histories
+pub unit_line : (slot : Slot) (k : ℕ) → unit_of slot (k + 4) ≡ history_at k slot.line_histories
 unit_line slot k =
     ap (λ (b : Bool). cond b (history_at (k + 4) slot.tag_histories) (history_at (k + 4 - 4) slot.line_histories)) (le-ltb (k + 4) 4 (omega arith))
     ∙ ap (λ (j : ℕ). history_at j slot.line_histories) (omega arith)
 
-unit_past : (slot : Slot) (u : ℕ) → 4 ≤ u → unit_of slot u ≡ history_at (u - 4) slot.line_histories
+pub unit_past : (slot : Slot) (u : ℕ) → 4 ≤ u → unit_of slot u ≡ history_at (u - 4) slot.line_histories
 unit_past slot u le = ap (λ (b : Bool). cond b (history_at u slot.tag_histories) (history_at (u - 4) slot.line_histories)) (le-ltb u 4 le)
 
 module _ (first : ℕ) (slot : Slot) (h : ℕ → List Moment) where

@@ -9,15 +9,16 @@ ghost use Rattle.parity_units.specs.Bytes.{byte_bits, answer_of};
 ghost use Rattle.parity_slots.specs.SlotState.{empty_state, IsAccess, value_at, with_slot, tags_checked, bytes_checked, has_struck_in, flip_answer, filled_state, byte_stored, stored_state, tag_struck, line_struck, used_at};
 ghost use Rattle.parity_slots.specs.Units.{slot_units, with_units, unit_of};
 
-use crate::access::{byte_of, fresh_line, fresh_tag, tag_of, wanted_count, wanted_first};
+use crate::access::{byte_of, fresh_line, tag_of, wanted_count, wanted_first};
 use crate::change::{
     ByteStored, BytesChecked, Dropped, Empty, Filled, LineStruck, State, TagStruck, TagsChecked,
     Used,
 };
+use crate::parity_word::{ParityWord, note_byte, note_word, note_words};
 use flip_ledger::FlipLedger;
 use ft_cells::Flipped;
 use ghost_value::Ghost;
-use parity_units::{Event, ParityByte, note};
+use parity_units::{Event, ParityByte};
 use std::marker::Model;
 
 /// One way of one set: a tag and a line.
@@ -26,10 +27,8 @@ use std::marker::Model;
 /// the line is valid; a line is present where this byte is not 0.
 #[derive(Drop)]
 pub struct Slot {
-    tag: [ParityByte; 4],
-    line: [ParityByte; 32],
-    /// The tag bytes as they were last written: the way of a fill is chosen by these.
-    tag_written: [u8; 4],
+    tag: ParityWord,
+    line: [ParityWord; 8],
     used: u32,
     state: Ghost<State>,
 }
@@ -43,7 +42,7 @@ impl Model for Slot {
 
     ghost view = { λ slot. slot.state };
 
-    ghost invariant = { λ slot. IsSlotOf slot.state slot.tag slot.line slot.tag_written slot.used };
+    ghost invariant = { λ slot. IsSlotOf slot.state slot.tag slot.line slot.used };
 }
 
 impl Slot {
@@ -52,9 +51,8 @@ impl Slot {
         ensures { result ≡ empty_state }
     {
         Slot {
-            tag: [ParityByte::fresh(0); 4],
-            line: [ParityByte::fresh(0); 32],
-            tag_written: [0; 4],
+            tag: ParityWord::fresh(0),
+            line: [ParityWord::fresh(0); 8],
             used: 0,
             state: Ghost::of(&Empty),
         }
@@ -70,30 +68,13 @@ impl Slot {
         self.used
     }
 
-    /// Whether a line is present, by the tag as it was last written.
+    /// Whether a line is present.
+    #[inline]
     pub fn is_present(&self) -> bool
+        requires { has_struck_tag self.now.slot ≡ false }
         ensures { result ≡ is_present self.now.slot }
     {
-        self.tag_written[3] != 0
-    }
-
-    /// Whether the line of this address is present, by the tag as it was last written.
-    pub fn was_filled_with(&self, addr: u32) -> bool
-        ensures { result ≡ holds addr self.now.slot }
-    {
-        let [first, second, third, valid] = self.tag_written;
-        let [high, middle, low, _] = addr.to_be_bytes();
-        valid != 0 && (first == high && second == middle && third == low)
-    }
-
-    /// A tag byte, by its bits.
-    #[inline]
-    fn tag_byte(&self, place: usize) -> u8
-        requires place { place < 4 }
-        requires unstruck { has_struck_tag self.now.slot ≡ false }
-        ensures { result ≡ slice_index self.now.slot.tag place }
-    {
-        self.tag[place].value()
+        self.tag.value() % 256 != 0
     }
 
     /// Whether the line of this address is present.
@@ -102,9 +83,7 @@ impl Slot {
         requires { has_struck_tag self.now.slot ≡ false }
         ensures { result ≡ holds addr self.now.slot }
     {
-        let [high, middle, low, _] = addr.to_be_bytes();
-        self.tag_byte(3) != 0
-            && (self.tag_byte(0) == high && self.tag_byte(1) == middle && self.tag_byte(2) == low)
+        self.is_present() && self.tag.value() / 256 == addr / 256
     }
 
     /// Whether the parity of a tag byte is wrong.
@@ -112,8 +91,7 @@ impl Slot {
     pub fn has_struck_tag(&self) -> bool
         ensures { result ≡ has_struck_tag self.now.slot }
     {
-        let [first, second, third, valid] = self.tag;
-        first.is_bad() || (second.is_bad() || (third.is_bad() || valid.is_bad()))
+        self.tag.is_bad()
     }
 
     /// Whether word `place` of the line is valid.
@@ -123,7 +101,7 @@ impl Slot {
         requires unstruck { has_struck_tag self.now.slot ≡ false }
         ensures { result ≡ is_valid_word self.now.slot place }
     {
-        (self.tag_byte(3) >> place) % 2 == 1
+        (self.tag.value() >> place) % 2 == 1
     }
 
     /// Whether the words that an access wants are valid.
@@ -133,22 +111,17 @@ impl Slot {
         requires unstruck { has_struck_tag self.now.slot ≡ false }
         ensures { result ≡ has_wanted_words addr len self.now.slot }
     {
-        let first = (addr / 4 % 8) as usize;
+        let first = wanted_first(addr);
         self.is_valid_word(first) && (len < 8 || self.is_valid_word(first + 1))
     }
 
-    /// Whether the parity of one of so many bytes of the line is wrong.
+    /// Whether the parity of a byte of a word of the line is wrong.
     #[inline]
-    fn has_struck(&self, first: usize, count: usize) -> bool
-        requires { first + count ≤ 32 }
-        ensures { result ≡ has_struck_in first count self.now.slot }
+    fn is_bad_word(&self, place: usize) -> bool
+        requires { place < 8 }
+        ensures { result ≡ has_struck_in (4 * place) 4 self.now.slot }
     {
-        for i in 0..count {
-            if self.line[first + i].is_bad() {
-                return true;
-            }
-        }
-        false
+        self.line[place].is_bad()
     }
 
     /// Whether the parity of a byte of the words that an access wants is wrong.
@@ -157,7 +130,8 @@ impl Slot {
         requires { IsAccess addr len }
         ensures { result ≡ has_struck_byte addr len self.now.slot }
     {
-        self.has_struck(wanted_first(addr), wanted_count(len))
+        let first = wanted_first(addr);
+        self.is_bad_word(first) || (len == 8 && self.is_bad_word(first + 1))
     }
 
     /// What an access reads: the bytes of the line at its address.
@@ -165,14 +139,17 @@ impl Slot {
     pub fn value(&self, addr: u32, len: u8) -> u64
         requires access { IsAccess addr len }
         requires unstruck { has_struck_byte addr len self.now.slot ≡ false }
-        ensures { result ≡ value_at addr len self.now.bytes }
+        ensures is { result ≡ value_at addr len self.now.bytes }
+        ensures fits { result < 2 ^ (8 * len) }
     {
-        let at = (addr % 32) as usize;
-        let mut value = 0;
-        for i in 0..len as usize {
-            value = value * 256 + u64::from(self.line[at + i].value());
+        let first = wanted_first(addr);
+        let word = self.line[first].value();
+        match len {
+            8 => u64::from(word) * (1 << 32) + u64::from(self.line[first + 1].value()),
+            4 => u64::from(word),
+            2 => u64::from((word >> (16 - 8 * (addr % 4))) % (1 << 16)),
+            _ => u64::from((word >> (24 - 8 * (addr % 4))) % (1 << 8)),
         }
-        value
     }
 
     // ---- what happens to it
@@ -195,7 +172,7 @@ impl Slot {
         ensures follows { (h : ℕ → List Moment) → Follows byte_budget (with_units first self.old.slot h) ledger.old
             → Follows byte_budget (with_units first (tags_checked self.old.slot) h) ledger.new }
     {
-        note(ledger, first, &self.tag, Event::Check);
+        note_word(ledger, first, self.tag, Event::Check);
         self.state.change(&TagsChecked);
     }
 
@@ -211,9 +188,9 @@ impl Slot {
     {
         let place = wanted_first(addr);
         let count = wanted_count(len);
-        note(
+        note_words(
             ledger,
-            first + 4 + place,
+            first + 4 + 4 * place,
             &self.line[place..place + count],
             Event::Check,
         );
@@ -229,9 +206,8 @@ impl Slot {
         ensures follows { (h : ℕ → List Moment) → Follows byte_budget (with_units first self.old.slot h) ledger.old
             → Follows byte_budget (with_units first (dropped self.old.slot) h) ledger.new }
     {
-        note(ledger, first, &self.tag, Event::Write);
-        self.tag = [ParityByte::fresh(0); 4];
-        self.tag_written = [0; 4];
+        note_word(ledger, first, self.tag, Event::Write);
+        self.tag = ParityWord::fresh(0);
         self.state.change(&Dropped);
     }
 
@@ -279,10 +255,9 @@ impl Slot {
         ensures follows { (h : ℕ → List Moment) → Follows byte_budget (with_units first self.old.slot h) ledger.old
             → Follows byte_budget (with_units first (filled_slot addr valid self.old.slot) h) ledger.new }
     {
-        note(ledger, first, &self.tag, Event::Write);
-        note(ledger, first + 4, &self.line, Event::Write);
-        self.tag_written = tag_of(addr, valid);
-        self.tag = fresh_tag(self.tag_written);
+        note_word(ledger, first, self.tag, Event::Write);
+        note_words(ledger, first + 4, &self.line, Event::Write);
+        self.tag = ParityWord::fresh(tag_of(addr, valid));
         self.line = fresh_line(words);
         self.state.change(&Filled { addr, valid, words });
     }
@@ -297,13 +272,9 @@ impl Slot {
         ensures follows { (h : ℕ → List Moment) → Follows byte_budget (with_units first self.old.slot h) ledger.old
             → Follows byte_budget (with_units first (byte_stored place byte self.old).slot h) ledger.new }
     {
-        note(
-            ledger,
-            first + 4 + place,
-            &self.line[place..place + 1],
-            Event::Write,
-        );
-        self.line[place] = ParityByte::fresh(byte);
+        let word = self.line[place / 4];
+        note_byte(ledger, first + 4 + place, word, place % 4, Event::Write);
+        self.line[place / 4] = word.with_byte(place % 4, ParityByte::fresh(byte));
         self.state.change(&ByteStored { place, byte });
     }
 
@@ -342,9 +313,9 @@ impl Slot {
         ensures struck { self.new ≡ tag_struck place number bit self.old }
         ensures gains { Gains place (Struck number bit) (unit_of self.old.slot) (unit_of self.new.slot) }
     {
-        let mut byte = self.tag[place];
+        let mut byte = self.tag.byte(place);
         let answer = byte.flip(bit);
-        self.tag[place] = byte;
+        self.tag = self.tag.with_byte(place, byte);
         self.state.change(&TagStruck { place, number, bit });
         answer
     }
@@ -357,9 +328,10 @@ impl Slot {
         ensures struck { self.new ≡ line_struck place number bit self.old }
         ensures gains { Gains (place + 4) (Struck number bit) (unit_of self.old.slot) (unit_of self.new.slot) }
     {
-        let mut byte = self.line[place];
+        let word = self.line[place / 4];
+        let mut byte = word.byte(place % 4);
         let answer = byte.flip(bit);
-        self.line[place] = byte;
+        self.line[place / 4] = word.with_byte(place % 4, byte);
         self.state.change(&LineStruck { place, number, bit });
         answer
     }

@@ -10,6 +10,7 @@ mod access;
 mod cache_slot;
 mod cache_slots;
 mod change;
+mod parity_word;
 
 pub use cache_slot::Slot;
 pub use cache_slots::Slots;

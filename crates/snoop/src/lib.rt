@@ -2,9 +2,10 @@
 //! order of memory before it uses its data cache again. No call takes memory.
 #![tactic(auto)]
 
-ghost use Rattle.std.specs.Prelude.{◌≡◌, ◌≤◌, fold, map, drop, length};
+ghost use Rattle.std.specs.Prelude.{◌≡◌, ◌≤◌, ℕ, fold, map, drop, length};
 ghost use Rattle.lf_model.specs.Caches.Change.{snooped};
-ghost use Rattle.parity_cache.specs.CacheState.{with_cache};
+ghost use Rattle.parity_cache.specs.CacheState.{with_cache, IsCleanSet};
+ghost use Rattle.parity_cache.specs.Keeps.{Keeps};
 ghost use Rattle.snoop.specs.Snooping.{address_of};
 
 use order_log::Log;
@@ -16,6 +17,8 @@ pub fn catch_up(cache: &mut ParityCache, log: &Log, seen: u32) -> u32
     requires { seen ≤ length log.now.entries }
     ensures seen { result ≡ length log.now.entries }
     ensures snooped { cache.new ≡ with_cache (fold snooped cache.old.cache (map address_of (drop seen log.now.entries))) cache.old }
+    ensures clean { (addr : ℕ) → IsCleanSet addr cache.old.cache → IsCleanSet addr cache.new.cache }
+    ensures keeps { Keeps 0 cache.old cache.new }
 {
     for i in seen..log.len() {
         cache.drop_line(log.at(i).addr);

@@ -6,6 +6,7 @@ use Rattle.std.proofs.lemmas.Option.{get_or_from_slice_get}
 use Rattle.lf_model.specs.Caches.Cache.{Cache}
 use Rattle.lf_model.specs.Caches.Change.{snooped}
 use Rattle.lf_model.specs.declared.bus.Entry.{Entry}
+use Rattle.parity_cache.proofs.KeepLemmas.{keeps_same, keeps_then}
 use Rattle.parity_cache.specs.CacheState.{CacheState, with_cache}
 use Rattle.snoop.specs.Snooping.{address_of}
 use Rattle.snoop.proofs.catch_up.Goals as goal
@@ -28,8 +29,22 @@ loop-i-preserved c =
     let lt : c.loop-i.i < length c.args.log.now.entries = omega (arith, c.loop-i-test.true, c.len-i-end.ensures.length) in
     let here = get_or_from_slice_get c.args.log.now.entries c.loop-i.i c.at.result c.at.result c.at.ensures.listed in
     let more = addresses_more c.args.log.now.entries c.args.seen c.loop-i.i c.at.result (omega arith) lt here in
-    c.drop_line.ensures
-    ∙ ap (λ (s : CacheState). with_cache (snooped s.cache c.at.result.addr) s) c.loop-i.invariant
-    ∙ ap (λ (cache : Cache). with_cache cache c.args.cache.now)
-    (sym (ap (fold snooped c.args.cache.now.cache) more
-    ∙ fold-append snooped c.args.cache.now.cache (map address_of (take (c.loop-i.i - c.args.seen) (drop c.args.seen c.args.log.now.entries))) (c.at.result.addr ∷ [])))
+    record {
+      snooped =
+          c.drop_line.ensures.dropped
+          ∙ ap (λ (s : CacheState). with_cache (snooped s.cache c.at.result.addr) s) c.loop-i.invariant.snooped
+          ∙ ap (λ (cache : Cache). with_cache cache c.args.cache.now)
+          (sym (ap (fold snooped c.args.cache.now.cache) more
+          ∙ fold-append snooped c.args.cache.now.cache (map address_of (take (c.loop-i.i - c.args.seen) (drop c.args.seen c.args.log.now.entries))) (c.at.result.addr ∷ [])));
+      clean = λ addr clean. c.drop_line.ensures.clean addr (c.loop-i.invariant.clean addr clean);
+      keeps = keeps_then 0 0 0 c.args.cache.now c.loop-i.cache c.drop_line.new.self (omega arith) c.loop-i.invariant.keeps c.drop_line.ensures.keeps;
+    }
+
+pub loop-i-init : goal.loop-i-init
+loop-i-init c =
+    let none : c.args.seen - c.args.seen ≡ 0 = omega arith in
+    record {
+      snooped = sym (ap (λ (n : ℕ). with_cache (fold snooped c.args.cache.now.cache (map address_of (take n (drop c.args.seen c.args.log.now.entries)))) c.args.cache.now) none);
+      clean = λ addr clean. clean;
+      keeps = keeps_same c.args.cache.now;
+    }

@@ -4,14 +4,17 @@ use Rattle.lf_model.specs.Caches.Cache.{slot_at}
 use Rattle.lf_model.specs.Caches.Look.{Checked, check_way, checked}
 use Rattle.lf_model.specs.Caches.Slot.{has_struck_tag}
 use Rattle.parity_cache.specs.CacheState.{CacheState, with_cache}
-use Rattle.parity_cache.proofs.SetLemmas.{checked_from, checked_next, checked_step, way_clean, way_others, way_slots, way_shape, way_uses}
+use Rattle.parity_cache.specs.Keeps.{Keeps, StaysClean}
+use Rattle.parity_cache.proofs.CleanLemmas.{way_stays}
+use Rattle.parity_cache.proofs.KeepLemmas.{keeps_same, keeps_then}
+use Rattle.parity_cache.proofs.SetLemmas.{checked_from, checked_next, checked_step, way_clean, way_others, way_uses}
 use Rattle.parity_cache.proofs.cache.ParityCache.check_set.Goals as goal
 use Rattle.parity_cache.proofs.cache.ParityCache.check_set.Goals.{then-check_way, else-check_way}
 
 pub check_way-requires : goal.check_way-requires
 check_way-requires c =
     let lt : c.loop-way.way < c.args.self.now.cache.shape.ways = rw (← c.self.view_is) c.loop-way-test.true in
-    omega (arith, c.first_slot-first.ensures.within, c.loop-way.invariant.slots, lt)
+    omega (arith, c.first_slot-first.ensures.within, c.loop-way.invariant.keeps.slots, lt)
 
 pub loop-way-preserved : goal.loop-way-preserved
 loop-way-preserved c =
@@ -22,7 +25,7 @@ loop-way-preserved c =
     let inv = c.loop-way.invariant in
     let k : Checked = checked_from c.first_slot-first.result c.loop-way.way c.args.self.now.cache in
     let lt : c.loop-way.way < c.args.self.now.cache.shape.ways = rw (← c.self.view_is) c.loop-way-test.true in
-    let within : c.first_slot-first.result + c.loop-way.way < length c.loop-way.self.cache.slots = omega (arith, c.first_slot-first.ensures.within, inv.slots, lt) in
+    let within : c.first_slot-first.result + c.loop-way.way < length c.loop-way.self.cache.slots = omega (arith, c.first_slot-first.ensures.within, inv.keeps.slots, lt) in
     let step = checked_next first way old.cache ∙ checked_step k i in
     let struck = sym (c.check_way.ensures.struck ∙ ap (λ (t : CacheState). has_struck_tag (slot_at i t.cache)) inv.checked) in
     let is_checked = c.check_way.ensures.checked
@@ -38,25 +41,26 @@ loop-way-preserved c =
           ap has_struck_tag (way_others c.loop-way.self.cache (c.first_slot-first.result + c.loop-way.way) within (c.first_slot-first.result + w) apart)
           ∙ inv.clean w (omega (arith, few, other))
     ]) in
-    let all_slots = ap (λ (t : CacheState). length t.cache.slots) c.check_way.ensures.checked ∙ way_slots c.loop-way.self.cache i within ∙ inv.slots in
-    let same_shape = ap (λ (t : CacheState). t.cache.shape) c.check_way.ensures.checked ∙ way_shape c.loop-way.self.cache i within ∙ inv.shape in
+    let stays : StaysClean c.args.self.now.cache c.check_way.new.self.cache =
+    λ j clean. ap (λ (t : CacheState). has_struck_tag (slot_at j t.cache)) c.check_way.ensures.checked ∙ way_stays c.loop-way.self.cache (c.first_slot-first.result + c.loop-way.way) within j (inv.stays j clean) in
+    let all_keeps : Keeps 0 c.args.self.now c.check_way.new.self = keeps_then 0 0 0 c.args.self.now c.loop-way.self c.check_way.new.self (omega arith) inv.keeps c.check_way.ensures.keeps in
     let same_uses = ap (λ (t : CacheState). t.cache.uses) c.check_way.ensures.checked ∙ way_uses c.loop-way.self.cache i within ∙ inv.uses in
     elim c.if-check_way.branch [
       | then-check_way w ↦ rw w.dropped-is (record {
         dropped = sym (ap (λ (c : Checked). c.dropped) step ∙ ap (λ (b : Bool). b || k.dropped) (struck ∙ w.if-check_way.true));
         checked = is_checked;
         clean = is_clean;
-        slots = all_slots;
         uses = same_uses;
-        shape = same_shape;
+        stays = stays;
+        keeps = all_keeps;
       })
       | else-check_way w ↦ rw w.dropped-is (record {
         dropped = inv.dropped ∙ sym (ap (λ (c : Checked). c.dropped) step ∙ ap (λ (b : Bool). b || k.dropped) (struck ∙ w.if-check_way.false));
         checked = is_checked;
         clean = is_clean;
-        slots = all_slots;
         uses = same_uses;
-        shape = same_shape;
+        stays = stays;
+        keeps = all_keeps;
       })
     ]
 
@@ -73,8 +77,9 @@ returns c =
       dropped = inv.dropped ∙ ap (λ (c : Checked). c.dropped) k;
       checked = inv.checked ∙ ap (λ (c : Checked). with_cache c.cache old) k;
       clean = λ w lt.
-          let below : w < c.loop-way.way = rw all (rw inv.shape at lt) in
-          rw (inv.shape, ← c.first_slot-first.ensures.first) (inv.clean w below);
-      shape = inv.shape;
+          let below : w < c.loop-way.way = rw all (rw inv.keeps.shape at lt) in
+          rw (inv.keeps.shape, ← c.first_slot-first.ensures.first) (inv.clean w below);
+      stays = inv.stays;
       uses = inv.uses;
+      keeps = inv.keeps;
     }

@@ -1,7 +1,8 @@
-use Rattle.std.proofs.Common.{◌≡◌, ℕ, ◌+◌, ◌<◌, false, length}
+use Rattle.std.proofs.Common.{◌≡◌, ℕ, ◌+◌, ◌<◌, false}
 use Rattle.lf_model.specs.Caches.Cache.{slot_at}
 use Rattle.lf_model.specs.Caches.Slot.{has_struck_tag}
 use Rattle.parity_cache.specs.CacheState.{with_cache}
+use Rattle.parity_cache.specs.Keeps.{Keeps, StaysClean}
 use Rattle.parity_cache.proofs.SetLemmas.{checked_from}
 use Rattle.parity_cache.proofs.cache.ParityCache.check_set.Given as goal
 
@@ -10,7 +11,7 @@ invariant-loop-way l = record {
   dropped : l.dropped ≡ (checked_from l.first l.way l.initial.self.cache).dropped;
   checked : l.self ≡ with_cache (checked_from l.first l.way l.initial.self.cache).cache l.initial.self;
   clean : (w : ℕ) → w < l.way → has_struck_tag (slot_at (l.first + w) l.self.cache) ≡ false;
-  slots : length l.self.cache.slots ≡ length l.initial.self.cache.slots;
   uses : l.self.cache.uses ≡ l.initial.self.cache.uses;
-  shape : l.self.cache.shape ≡ l.initial.self.cache.shape;
+  stays : StaysClean l.initial.self.cache l.self.cache;
+  keeps : Keeps 0 l.initial.self l.self;
 }

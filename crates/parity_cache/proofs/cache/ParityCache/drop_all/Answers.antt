@@ -1,4 +1,4 @@
-use Rattle.std.proofs.Common.{ℕ, ◌<◌, ◌≤◌, List, length, sym, ap, ◌∙◌, add-one, arith}
+use Rattle.std.proofs.Common.{ℕ, ◌<◌, ◌≤◌, List, length, refl, sym, ap, ◌∙◌, add-one, arith}
 use Rattle.lf_model.specs.Caches.Change.{flushed}
 use Rattle.lf_model.specs.Caches.Slot.{Slot}
 use Rattle.parity_cache.specs.CacheState.{with_cache}
@@ -9,6 +9,8 @@ use Rattle.parity_cache.proofs.cache.ParityCache.drop_all.Goals as goal
 pub invariant_of-self : goal.invariant_of-self
 invariant_of-self c = rw c.loop-i.invariant (record {
   shape = c.self.invariant.shape;
+  some_set = c.self.invariant.some_set;
+  few_sets = c.self.invariant.few_sets;
   slots = dropped_length c.loop-i.i c.self.inside.slots.slots ∙ c.self.invariant.slots;
   tag_errors = c.self.invariant.tag_errors;
   byte_errors = c.self.invariant.byte_errors;
@@ -27,10 +29,20 @@ loop-i-preserved c =
     rw (c.drop_line.ensures, c.loop-i.invariant)
     (ap (λ (slots : List Slot). record s { slots = record s.slots { slots = slots } }) (dropped_next c.loop-i.i c.self.inside.slots.slots lt ∙ ap (λ (n : ℕ). dropped_below n c.self.inside.slots.slots) (sym (add-one c.loop-i.i))))
 
-pub returns : goal.returns
+pub returns-clause-dropped : goal.returns-clause-dropped
 unfolding flushed
-returns c =
+returns-clause-dropped c =
     let s = c.self.inside in
     let all : length c.self.inside.slots.slots ≤ c.loop-i.i = omega (arith, c.self.invariant.slots, c.loop-i-test.false) in
     rw (← c.self.view_is, c.loop-i.invariant)
     (ap (λ (slots : List Slot). with_cache (record (seen s).cache { slots = slots }) (seen s)) (dropped_all c.loop-i.i c.self.inside.slots.slots all))
+
+pub returns-clause-keeps : goal.returns-clause-keeps
+returns-clause-keeps c = rw (← c.self.view_is, c.loop-i.invariant) (record {
+  shape = refl;
+  slots = dropped_length c.loop-i.i c.self.inside.slots.slots;
+  flips = refl;
+  uses_at_most = omega arith;
+  tag_errors = λ few. few;
+  byte_errors = λ few. few;
+})

@@ -1,11 +1,14 @@
-use Rattle.std.proofs.Common.{Bool, Some, None, sym, ap, ◌∙◌, cond}
-use Rattle.lf_model.specs.Caches.Cache.{matching}
+use Rattle.std.proofs.Common.{◌≡◌, ℕ, Bool, false, Some, None, sym, ap, ◌∙◌, cond, arith}
+use Rattle.lf_model.specs.Caches.Cache.{slot_at, matching}
+use Rattle.lf_model.specs.Caches.Slot.{has_struck_tag}
 use Rattle.lf_model.specs.Caches.Look.{Looked, look_in, checked}
 use Rattle.parity_cache.specs.CacheState.{CacheState, with_cache, answer_of}
+use Rattle.parity_cache.proofs.CleanLemmas.{look_stays, set_stays}
+use Rattle.parity_cache.proofs.KeepLemmas.{keeps_then, keeps_more}
 use Rattle.parity_cache.proofs.SetLemmas.{look_is, answer_same}
 use Rattle.lf_model.specs.declared.bus.Why.{Why}
 use Rattle.lf_model.specs.declared.bus.Why.TheVariants as whys
-use Rattle.parity_cache.specs.declared.look.Look.TheVariants.{Miss}
+use Rattle.lf_model.specs.declared.step.Look.TheVariants.{Miss}
 use Rattle.parity_cache.proofs.cache.ParityCache.look.Goals as goal
 
 pub returns-in-Some-clause-answer : goal.returns-in-Some-clause-answer
@@ -17,7 +20,7 @@ returns-in-Some-clause-answer c =
     let found = c.in-Some.ensures.slot ∙ ap (λ (t : CacheState). matching c.args.addr t.cache) is in
     c.look_in.ensures.answer
     ∙ ap (λ (t : CacheState). answer_of c.args.addr c.args.len t (look_in c.args.addr c.args.len c.in-Some.i t.cache).answer) is
-    ∙ answer_same addr len old (checked addr old.cache).cache (look_in addr len c.in-Some.i (checked addr old.cache).cache).answer (sym (ap (λ (t : CacheState). t.cache.shape) is) ∙ c.check_set-dropped.ensures.shape)
+    ∙ answer_same addr len old (checked addr old.cache).cache (look_in addr len c.in-Some.i (checked addr old.cache).cache).answer (sym (ap (λ (t : CacheState). t.cache.shape) is) ∙ c.check_set-dropped.ensures.keeps.shape)
     ∙ ap (λ (l : Looked). answer_of c.args.addr c.args.len c.args.self.now l.answer) (sym (look_is addr len old.cache (Some c.in-Some.i) found))
 
 pub returns-in-Some-clause-looked : goal.returns-in-Some-clause-looked
@@ -40,3 +43,17 @@ returns-in-None-clause-looked c =
     let found = c.in-None.ensures.slot ∙ ap (λ (t : CacheState). matching c.args.addr t.cache) c.check_set-dropped.ensures.checked in
     c.check_set-dropped.ensures.checked
     ∙ ap (λ (l : Looked). with_cache l.cache c.args.self.now) (sym (look_is c.args.addr c.args.len c.args.self.now.cache None found))
+
+pub returns-in-Some-clause-clean : goal.returns-in-Some-clause-clean
+returns-in-Some-clause-clean c =
+    set_stays c.args.addr 1 c.check_set-dropped.new.self c.look_in.new.self c.look_in.ensures.keeps
+    (λ j unstruck.
+    ap (λ (t : CacheState). has_struck_tag (slot_at j t.cache)) c.look_in.ensures.looked
+    ∙ look_stays c.check_set-dropped.new.self.cache c.in-Some.i c.in-Some.ensures.within c.args.addr c.args.len j unstruck)
+    c.check_set-dropped.ensures.clean
+
+pub returns-in-Some-clause-keeps : goal.returns-in-Some-clause-keeps
+returns-in-Some-clause-keeps c = keeps_then 0 1 1 c.args.self.now c.check_set-dropped.new.self c.look_in.new.self (omega arith) c.check_set-dropped.ensures.keeps c.look_in.ensures.keeps
+
+pub returns-in-None-clause-keeps : goal.returns-in-None-clause-keeps
+returns-in-None-clause-keeps c = keeps_more 0 1 c.args.self.now c.check_set-dropped.new.self (omega arith) c.check_set-dropped.ensures.keeps

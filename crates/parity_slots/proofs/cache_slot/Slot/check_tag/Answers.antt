@@ -1,3 +1,5 @@
+use Rattle.std.proofs.Common.{[], ◌∷◌}
+use Rattle.parity_slots.specs.ParityWords.{bytes_in}
 use Rattle.parity_units.specs.declared.events.Event.TheVariants.{Check}
 use Rattle.parity_slots.specs.Units.{with_units}
 use Rattle.parity_slots.proofs.ByteRows.{row_checked}
@@ -9,11 +11,9 @@ invariant_of-self c =
     let inside = c.self.inside in
     let is = c.self.invariant in
     rw c.change.ensures.value (record {
-      tag_bytes = row_checked inside.state.slot.tag inside.state.slot.tag_histories inside.tag is.tag_bytes;
+      tag_bytes = row_checked inside.state.slot.tag inside.state.slot.tag_histories (bytes_in 4 (inside.tag ∷ [])) is.tag_bytes;
       line_bytes = is.line_bytes;
-      tag_length = is.tag_length;
       line_length = is.line_length;
-      last_written = is.last_written;
       last_used = is.last_used;
     })
 
@@ -21,6 +21,6 @@ pub returns-clause-follows : goal.returns-clause-follows
 returns-clause-follows c =
     let inside = c.self.inside in
     rw (← c.self.view_is) (λ h follows.
-    follows_tag inside.state inside.tag inside.line inside.tag_written inside.used c.self.invariant c.args.first h Check c.note.new.ledger
-    (c.note.ensures.follows (with_units c.args.first inside.state.slot h)
-    (tag_units inside.state inside.tag inside.line inside.tag_written inside.used c.self.invariant c.args.first h) follows))
+    follows_tag inside.state inside.tag inside.line inside.used c.self.invariant c.args.first h Check c.note_word.new.ledger
+    (c.note_word.ensures.follows (with_units c.args.first inside.state.slot h)
+    (tag_units inside.state inside.tag inside.line inside.used c.self.invariant c.args.first h) follows))

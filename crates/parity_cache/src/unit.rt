@@ -1,14 +1,3 @@
-use lf_model::bus::Why;
-
-/// What a look-up comes to.
-#[derive(Clone, Copy, Debug)]
-pub enum Look {
-    /// It hits, in this way, and reads this value: its bytes, the most significant first.
-    Hit { value: u64, way: u32 },
-    /// It misses, with a cause: `Absent`, `Word`, `Tag` or `Byte`.
-    Miss(Why),
-}
-
 /// A unit of a cache: a byte of a tag or of a line, with its parity.
 #[derive(Clone, Copy, Debug)]
 pub struct Unit {
