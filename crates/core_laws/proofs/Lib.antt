@@ -1,0 +1,5 @@
+pub mod ListLemmas
+pub mod OthersTurns
+pub mod Growing
+pub mod LaterGround
+pub mod OwnTurns
