@@ -9,7 +9,7 @@ use Rattle.std.specs.List.{AllByRecursion as Each, list_all, slice_get}
 use Rattle.std.specs.Option.{option_map, IfSome}
 use Rattle.core_laws.proofs.Growing.{grows_local_steps, grows_own_turn, grows_transfers}
 use Rattle.core_laws.proofs.LaterGround.{NoStop, before_earlier, same_past, local_steps_same, course_same}
-use Rattle.core_laws.proofs.ListLemmas.{get_first, get_pushed}
+use Rattle.core_laws.proofs.ListLemmas.{get_first, get_behind}
 use Rattle.core_laws.specs.Running.{running, with_later, IsBefore}
 use Rattle.lf_model.proofs.CourseLemmas.{IsAt, observe_own, local_steps_count}
 use Rattle.lf_model.proofs.EachLemmas.{each_first}
@@ -49,16 +49,19 @@ module _ (g : Ground) where
   own_turn_at_longer ts us turn within h =
       same_at ts us turn (take-append-le turn ts us (omega arith)) (slice_get ts turn) (get_first ts us turn within) refl h
 
+  -- a core whose next step is that of this transfer has come up to it
+  pub up_to_next : (ts : List Transfer) (n : ℕ) (k : Progress) (t : Transfer) → IsAt g ts n k → t.step ≡ k.steps → up_to g t (course g ts) ≡ k
+  up_to_next ts n k t h step =
+      ap (λ m. local_steps g m (course g ts)) (left (course g ts).steps n t.step (step ∙ (ap (λ (j : Progress). j.steps) h.at ∙ local_steps_count g n (course g ts)))) ∙ sym h.at
+    where
+      left : (steps n step : ℕ) → step ≡ steps + n → step - steps ≡ n
+      left steps n step e = omega arith
+
   -- the turn that the core makes, in the step after those that it made
   pub own_turn_at_made : (ts : List Transfer) (n : ℕ) (k : Progress) (t : Transfer) → IsAt g ts n k → t.step ≡ k.steps → (g.core ≡ t.master → IsRightTurn g t k)
       → OwnTurnAt g (ts ++ t ∷ []) (length ts)
-  own_turn_at_made ts n k t h step right = rw (get_pushed ts t, take_at ts (t ∷ []) (length ts) refl)
-      (λ own. subst (IsRightTurn g t)
-          (h.at ∙ ap (λ m. local_steps g m (course g ts)) (made (course g ts).steps n t.step (step ∙ (ap (λ (j : Progress). j.steps) h.at ∙ local_steps_count g n (course g ts)))))
-          (right own))
-    where
-      made : (steps n step : ℕ) → step ≡ steps + n → n ≡ step - steps
-      made steps n step e = omega arith
+  own_turn_at_made ts n k t h step right = rw (get_behind ts [] t, take_at ts (t ∷ []) (length ts) refl)
+      (λ own. subst (IsRightTurn g t) (sym (up_to_next ts n k t h step)) (right own))
 
 -- ---- what is known later
 

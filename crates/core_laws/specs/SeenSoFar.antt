@@ -2,6 +2,7 @@
 -- log that it has seen and the stores that wait in its store buffer.
 use Rattle.std.specs.Prelude.{ℕ, ◌≡◌, ◌≤◌, ◌<◌, ◌&&◌, false, nat_le, List, ◌++◌, length, map, filter, slice_index, slice_get, IfSome, if◌then◌else◌}
 use Rattle.std.specs.List.{AllByRecursion}
+use Rattle.lf_model.specs.Course.Core.{is_store}
 use Rattle.lf_model.specs.Operation.{entry_reads, stores, is_lost, made}
 use Rattle.lf_model.specs.Records.SeenOrder.{is_entry_of, LoadReads, AtomicReads, SeenAreEarlier, AtomicIsSeen}
 use Rattle.lf_model.specs.declared.bus.Entry.{Entry}
@@ -26,9 +27,9 @@ pub record HasSeenSoFar (initial : ℕ → ℕ) (c : ℕ) (ops : List Op) (seen 
 
 -- ---- the stores that wait are lost
 
--- the store, from number n on, is lost
+-- the operation, a store from number n on, is lost
 abbrev pub lost_from : ℕ → Op → Op
-lost_from n o = record o { kind = if stores o && nat_le n o.k then Lost else o.kind }
+lost_from n o = record o { kind = if is_store o && nat_le n o.k then Lost else o.kind }
 
 -- the operations, of which the stores from number n on are lost
 abbrev pub losing : ℕ → List Op → List Op
