@@ -1,15 +1,14 @@
 -- What a core is given by its operations: more of them give more, and it is the same where stores are lost.
-use Rattle.std.proofs.Common.{◌≡◌, ◌∙◌, ◌&&◌, ◌++◌, ℕ, Bool, true, false, nat_le, List, [], ◌∷◌, map, filter, refl, ap, if◌then◌else◌}
+use Rattle.std.proofs.Common.{◌≡◌, ◌∙◌, ◌++◌, ℕ, Bool, true, false, nat_le, List, [], ◌∷◌, map, filter, refl, ap}
 use Rattle.std.proofs.lemmas.List.{map-append}
 use Rattle.std.proofs.lemmas.List.Elements.{filter-append}
+use Rattle.core_laws.proofs.LostKinds.{lost_reads, lost_stays_store, lost_kind_made}
 use Rattle.core_laws.specs.Running.{with_later}
 use Rattle.core_laws.specs.SeenSoFar.{lost_from, losing}
-use Rattle.lf_model.specs.Course.Core.{Given, is_store_kind, is_store, given_by}
+use Rattle.lf_model.specs.Course.Core.{Given, is_store, given_by}
 use Rattle.lf_model.specs.Execution.{got_of, answers_of}
-use Rattle.lf_model.specs.Operation.{kind_reads, kind_made, reads, made}
+use Rattle.lf_model.specs.Operation.{kind_reads, reads, made}
 use Rattle.lf_model.specs.declared.bus.Entry.{Entry}
-use Rattle.lf_model.specs.declared.bus.OpKind.{OpKind}
-use Rattle.lf_model.specs.declared.bus.OpKind.TheVariants.{Load, Store, Atomic, Lost}
 use Rattle.lf_model.specs.declared.trace.Op.{Op}
 
 both_given : {answers answers' : List ℕ} {stores stores' : List Entry} → answers ≡ answers' → stores ≡ stores'
@@ -22,30 +21,6 @@ given_more ops more = both_given
     (ap (map made) (filter-append is_store ops more) ∙ map-append made (filter is_store ops) (filter is_store more))
 
 -- ---- lost stores
-
-lost_reads : (kind : OpKind) (late : Bool) → kind_reads (if is_store_kind kind && late then Lost else kind) ≡ kind_reads kind
-lost_reads Load late = refl
-lost_reads Store true = refl
-lost_reads Store false = refl
-lost_reads Atomic late = refl
-lost_reads Lost true = refl
-lost_reads Lost false = refl
-
-lost_stays_store : (kind : OpKind) (late : Bool) → is_store_kind (if is_store_kind kind && late then Lost else kind) ≡ is_store_kind kind
-lost_stays_store Load late = refl
-lost_stays_store Store true = refl
-lost_stays_store Store false = refl
-lost_stays_store Atomic late = refl
-lost_stays_store Lost true = refl
-lost_stays_store Lost false = refl
-
-lost_kind_made : (kind : OpKind) (late : Bool) → kind_made (if is_store_kind kind && late then Lost else kind) ≡ kind_made kind
-lost_kind_made Load late = refl
-lost_kind_made Store true = refl
-lost_kind_made Store false = refl
-lost_kind_made Atomic late = refl
-lost_kind_made Lost true = refl
-lost_kind_made Lost false = refl
 
 -- the program made the same operation
 pub lost_made : (n : ℕ) (o : Op) → made (lost_from n o) ≡ made o

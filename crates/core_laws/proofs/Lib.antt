@@ -4,5 +4,9 @@ pub mod Growing
 pub mod LaterGround
 pub mod OwnTurns
 pub mod Ends
+pub mod LostKinds
 pub mod Given
-pub mod SeenSteps
+pub mod SeenLog
+pub mod SeenRetired
+pub mod Rising
+pub mod SeenEnd

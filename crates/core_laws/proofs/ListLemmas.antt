@@ -79,3 +79,21 @@ each_unfilter P p (x ∷ xs) h = elim (cases_Bool (p x)) [
 pub filter_all : {X : Type 0} (p : X → Bool) (xs : List X) → Each (λ x. p x ≡ true) xs → filter p xs ≡ xs
 filter_all p [] h = refl
 filter_all p (x ∷ xs) h = rw h.0 (ap (λ ys. x ∷ ys) (filter_all p xs h.1))
+
+pub each_every : {X : Type 0} (P : X → Type 0) (xs : List X) → ((x : X) → P x) → Each P xs
+each_every P [] f = tt
+each_every P (x ∷ xs) f = (f x, each_every P xs f)
+
+-- a test that only elements pass which pass another
+pub filter_within : {X : Type 0} (p q : X → Bool) (xs : List X) → ((x : X) → p x ≡ true → q x ≡ true) → filter p (filter q xs) ≡ filter p xs
+filter_within p q [] f = refl
+filter_within p q (x ∷ xs) f = elim (cases_Bool (q x)) [
+  | inl is_so ↦ elim (cases_Bool (p x)) [
+    | inl passes ↦ rw (is_so, passes) (ap (λ ys. x ∷ ys) (filter_within p q xs f))
+    | inr fails ↦ rw (is_so, fails) (filter_within p q xs f)
+  ]
+  | inr not_so ↦ elim (cases_Bool (p x)) [
+    | inl passes ↦ let so = f x passes in absurd (cc)
+    | inr fails ↦ rw (not_so, fails) (filter_within p q xs f)
+  ]
+]

@@ -1,8 +1,8 @@
--- What a running core has seen of memory order is carried on by each thing that it does: an operation retires, a store drains, and
--- others put entries into the log.
-use Rattle.std.proofs.Common.{◌≡◌, ◌∙◌, ◌+◌, ◌-◌, ◌<◌, ◌≤◌, ℕ, true, false, List, [], ◌∷◌, ◌++◌, Option, Some, None, length, take, drop, map, filter, refl, ap, sym, subst, arith, inl, inr}
+-- An operation of a running core retires: a load reads the entries seen and then the waiting stores, a store goes into the store
+-- buffer, and an atomic comes behind the log.
+use Rattle.std.proofs.Common.{◌≡◌, ◌∙◌, ◌+◌, ◌<◌, ◌≤◌, ℕ, true, false, List, [], ◌∷◌, ◌++◌, length, take, drop, map, filter, refl, ap, sym, subst, arith, inl, inr}
 use Rattle.std.proofs.lemmas.Bool.{cases_lt, eq-eqb}
-use Rattle.std.proofs.lemmas.List.{append_assoc, append-nil, length-append, length_push, get_or_append_left, get_or_push, take-append-le, take_all, take_at, drop_at, drop-map, map-append}
+use Rattle.std.proofs.lemmas.List.{append_assoc, append-nil, length_push, get_or_append_left, get_or_push, take-append-le, take_all, take_at, drop_at, drop-map, map-append}
 use Rattle.std.proofs.lemmas.List.Elements.{filter-append}
 use Rattle.std.proofs.lemmas.List.Sums.{length-filter}
 use Rattle.std.proofs.lemmas.Option.{slice_get_within, slice_get_past}
@@ -10,11 +10,11 @@ use Rattle.std.specs.List.{count_by, slice_get}
 use Rattle.std.specs.List.{AllByRecursion as Each}
 use Rattle.std.specs.Option.{IfSome}
 use Rattle.std.specs.Prelude.{slice_index}
-use Rattle.core_laws.proofs.ListLemmas.{get_first, get_second, get_behind, if_there, each_get, each_from_get, each_take, each_map, each_filter, each_unfilter}
+use Rattle.core_laws.proofs.ListLemmas.{get_first, get_behind, if_there, each_get, each_from_get, each_take, each_map, each_filter, each_unfilter}
 use Rattle.core_laws.specs.SeenSoFar.{HasSeenSoFar}
-use Rattle.lf_model.proofs.EachLemmas.{each_append, each_first, each_second, each_weaker, filter_none}
+use Rattle.lf_model.proofs.EachLemmas.{each_append, each_first, each_weaker}
 use Rattle.lf_model.specs.Operation.{kind_reads, entry_reads, stores, is_lost, made}
-use Rattle.lf_model.specs.Records.SeenOrder.{is_load, is_entry_of, front, LoadReads, AtomicReads, SeenAreEarlier, AtomicIsSeen}
+use Rattle.lf_model.specs.Records.SeenOrder.{is_load, is_entry_of, LoadReads, AtomicReads, SeenAreEarlier, AtomicIsSeen}
 use Rattle.lf_model.specs.Value.{Reads}
 use Rattle.lf_model.specs.declared.bus.Entry.{Entry}
 use Rattle.lf_model.specs.declared.bus.OpKind.TheVariants.{Load, Store, Atomic}
@@ -45,59 +45,7 @@ module _ (initial : ℕ → ℕ) (c : ℕ) where
     none_lost = tt;
   }
 
-  -- an atomic of the core is not among these entries
-  abbrev HasNoAtomic : List Entry → Type 0
-  HasNoAtomic es = Each (λ e. e.core ≡ c → kind_reads e.kind ≡ true → ⊥) es
-
   module _ (ops : List Op) (seen : List ℕ) (log buffer : List Entry) (h : HasSeenSoFar initial c ops seen log buffer) where
-    -- ---- entries are appended to the log
-
-    front_same : (more : List Entry) (k : ℕ) → k < length ops → front (log ++ more) seen k ≡ front log seen k
-    front_same more k within = take-append-le (slice_index seen k) log more (h.in_log k (omega (arith, h.one_each)))
-
-    -- at each place of the log, and of what is appended
-    at_places : (P : Entry → ℕ → List Entry → Type 0) (more : List Entry) → ((p : ℕ) → p < length log → IfSome (slice_get log p) (λ e. P e p (take p log)))
-        → Each (λ e. (p : ℕ) (es : List Entry) → P e p es) more → (p : ℕ) → p < length (log ++ more) → IfSome (slice_get (log ++ more) p) (λ e. P e p (take p (log ++ more)))
-    at_places P more below later p within = elim (cases_lt p (length log)) [
-      | inl less ↦ rw (get_first log more p less, take-append-le p log more (omega arith)) (below p less)
-      | inr past ↦
-          let split : p ≡ length log + (p - length log) = omega arith in
-          if_there (slice_get (log ++ more) p) (λ e. Unit {0}) (λ e. P e p (take p (log ++ more))) (any (slice_get (log ++ more) p))
-              (λ e there u. each_get (λ x. (q : ℕ) (es : List Entry) → P x q es) more (p - length log) e later (sym (get_second log more (p - length log)) ∙ (ap (slice_get (log ++ more)) (sym split) ∙ there)) p (take p (log ++ more)))
-    ]
-      where
-        any : (found : Option Entry) → IfSome found (λ e. Unit {0})
-        any None = tt
-        any (Some e) = tt
-
-    grown : (more later : List Entry) → HasNoAtomic more → filter (is_entry_of c) (log ++ more) ++ later ≡ map made (filter stores ops) → Each (λ e. entry_reads e ≡ false) later
-        → HasSeenSoFar initial c ops seen (log ++ more) later
-    grown more later none entries wait = record {
-      of_core = h.of_core;
-      numbered = h.numbered;
-      one_each = h.one_each;
-      rises = h.rises;
-      in_log = λ i within. omega (arith, h.in_log i within, length-append log more);
-      loads = λ k within. rw (front_same more k within) (h.loads k within);
-      atomics = at_places (λ e p es. e.core ≡ c → kind_reads e.kind ≡ true → Reads initial e es) more h.atomics
-          (each_weaker _ _ more (λ e not_so p es own reads. absurd (not_so own reads)) none);
-      entries = entries;
-      earlier = λ k within. rw (front_same more k within) (h.earlier k within);
-      atomics_seen = at_places (λ e p es. e.core ≡ c → kind_reads e.kind ≡ true → p < slice_index seen e.k) more h.atomics_seen
-          (each_weaker _ _ more (λ e not_so p es own reads. absurd (not_so own reads)) none);
-      stores_wait = wait;
-      none_lost = h.none_lost;
-    }
-
-    -- others put entries into the log
-    pub seen_others : (more : List Entry) → Each (λ e. is_entry_of c e ≡ false) more → HasSeenSoFar initial c ops seen (log ++ more) buffer
-    seen_others more others = grown more buffer
-        (each_weaker (λ e. is_entry_of c e ≡ false) (λ e. e.core ≡ c → kind_reads e.kind ≡ true → ⊥) more (λ e other own reads. let same = eq-eqb e.core c own in absurd (cc)) others)
-        (ap (λ es. es ++ buffer) (filter-append (is_entry_of c) log more ∙ (ap (λ es. filter (is_entry_of c) log ++ es) (filter_none (is_entry_of c) more others) ∙ append-nil (filter (is_entry_of c) log))) ∙ h.entries)
-        h.stores_wait
-
-    -- ---- an operation retires
-
     ops_below : Each (λ (o : Op). o.k < length ops) ops
     ops_below = each_from_get (λ (o : Op). o.k < length ops) ops
         (λ k. if_there (slice_get ops k) (λ (o : Op). o.k ≡ k) (λ (o : Op). o.k < length ops) (h.numbered k) (λ o there same. omega (arith, same, slice_get_within ops k o there)))
@@ -235,18 +183,3 @@ module _ (initial : ℕ → ℕ) (c : ℕ) where
                   (λ q within. rw (get_first log (made o ∷ []) q within) (seen_kept (length log + 1) q within))
                   (rw (get_behind log [] (made o), number, get_or_push seen (length log + 1) 0 (length ops) h.one_each) (λ own' atomic. omega arith)) p (omega (arith, lt, length_push log (made o))))
               tt
-
-  -- the oldest store that waits drains: its entry comes behind the log
-  pub seen_drain : (ops : List Op) (seen : List ℕ) (log : List Entry) (e : Entry) (later : List Entry) → HasSeenSoFar initial c ops seen log (e ∷ later)
-      → HasSeenSoFar initial c ops seen (log ++ e ∷ []) later
-  seen_drain ops seen log e later h =
-      grown ops seen log (e ∷ later) h (e ∷ []) later ((λ own reads. absurd (let plain = h.stores_wait.0 in cc)), tt)
-          (ap (λ es. es ++ later) (filter-append (is_entry_of c) log (e ∷ []) ∙ ap (λ es. filter (is_entry_of c) log ++ es) own_entry)
-          ∙ (append_assoc (filter (is_entry_of c) log) (e ∷ []) later ∙ h.entries))
-          h.stores_wait.1
-    where
-      all_own : Each (λ (x : Entry). x.core ≡ c) (filter (is_entry_of c) log ++ e ∷ later)
-      all_own = subst (Each (λ (x : Entry). x.core ≡ c)) (sym h.entries) (each_map (λ (x : Entry). x.core ≡ c) made (filter stores ops) (each_filter (λ (o : Op). o.core ≡ c) stores ops h.of_core))
-
-      own_entry : filter (is_entry_of c) (e ∷ []) ≡ e ∷ []
-      own_entry = rw (eq-eqb e.core c (each_second (λ (x : Entry). x.core ≡ c) (filter (is_entry_of c) log) (e ∷ later) all_own).0) refl
