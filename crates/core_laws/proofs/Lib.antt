@@ -1,0 +1,12 @@
+pub mod ListLemmas
+pub mod OthersTurns
+pub mod Growing
+pub mod LaterGround
+pub mod OwnTurns
+pub mod Ends
+pub mod LostKinds
+pub mod Given
+pub mod SeenLog
+pub mod SeenRetired
+pub mod Rising
+pub mod SeenEnd

@@ -1,0 +1,5 @@
+pub mod Running
+pub mod SeenSoFar
+pub mod RunSoFar
+pub mod StepsSoFar
+pub mod StepTouches
