@@ -11,9 +11,13 @@ pub record Registers : Type 0 where
   pub histories : List (List Moment)
   pub flips : ℕ
 
--- at reset each cell holds 0
+-- cells that nothing befell yet, with these values
+abbrev pub fresh_registers : List ℕ → ℕ → Registers
+fresh_registers values flips = record { values = values; histories = replicate register_cells []; flips = flips }
+
+-- each cell holds 0
 abbrev pub at_start : ℕ → Registers
-at_start flips = record { values = replicate register_cells 0; histories = replicate register_cells []; flips = flips }
+at_start flips = fresh_registers (replicate register_cells 0) flips
 
 -- a cell reads as it was last written, unless it is bad
 unfoldable pub answer_of_read : Registers → ℕ → Result ℕ RegBad

@@ -2,7 +2,7 @@
 //! turned bit, and detects two.
 //!
 //! A read writes a corrected value back. Contracts see of each cell the value last written and its history. A cell that no flip
-//! struck costs no code and no record. Only `RegFile::new` takes memory.
+//! struck costs no code and no record. Only `RegFile::new` and `RegFile::with_values` take memory.
 #![tactic(auto)]
 
 mod regfile;

@@ -8,7 +8,7 @@ ghost use Rattle.lf_model.specs.Fates.{fate_of};
 ghost use Rattle.lf_model.specs.Flips.{word_budget, word_bits};
 ghost use Rattle.lf_model.specs.Flips.Moment.{Named};
 ghost use Rattle.lf_model.specs.declared.trace.Fate.TheVariants.{Late};
-ghost use Rattle.ft_regfile.specs.Registers.{at_start, answer_of_read, value_shown, with_value};
+ghost use Rattle.ft_regfile.specs.Registers.{at_start, fresh_registers, answer_of_read, value_shown, with_value};
 
 use coded_words::{CodedWords, How};
 use edac_code::Read39;
@@ -48,8 +48,23 @@ impl RegFile {
     pub fn new(alloc: Global, flips: u32) -> Result<RegFile, AllocError>
         ensures { IfOk result (λ registers. registers ≡ at_start flips) }
     {
+        RegFile::with_values(alloc, &[0; CELL_COUNT], flips)
+    }
+
+    /// Registers that hold these values before the first step, for a script of so many flips. No write of a cell is recorded.
+    ///
+    /// # Errors
+    ///
+    /// Memory ran out.
+    pub fn with_values(
+        alloc: Global,
+        values: &[u32; CELL_COUNT],
+        flips: u32,
+    ) -> Result<RegFile, AllocError>
+        ensures { IfOk result (λ registers. registers ≡ fresh_registers values.now flips) }
+    {
         Ok(RegFile {
-            cells: CodedWords::new(alloc, &[0; CELL_COUNT], flips)?,
+            cells: CodedWords::new(alloc, values, flips)?,
         })
     }
 
