@@ -10,3 +10,5 @@ pub mod StoreLemmas
 pub mod TakenLemmas
 pub mod InsideLemmas
 pub mod GrantLemmas
+pub mod RecordLemmas
+pub mod ShownLemmas

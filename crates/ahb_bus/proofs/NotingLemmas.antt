@@ -66,6 +66,22 @@ module _ (s : AhbStatus) (t : Transfer) where
       by true = refl
       by false = refl
 
+-- the bad words of some
+pub bad_at : (m : MemoryState) (addrs : List ℕ) (place : ℕ) → is_bad_syndrome (slice_index (map (syndrome_at m) addrs) place) ≡ slice_index_or (map (is_bad_at m) addrs) place false
+bad_at m [] place = refl
+bad_at m (addr ∷ addrs) zero = bad_by_syndrome (met m addr)
+bad_at m (addr ∷ addrs) (suc place) = bad_at m addrs place
+
+-- the words of a line
+pub line_asked : (addr len : ℕ) (kind : TurnKind) → reads_line kind ≡ true → words_by_kind addr len kind ≡ words_of_line addr
+line_asked addr len Fetch is = refl
+line_asked addr len Load is = refl
+line_asked addr len Store is = absurd (false≢true is)
+line_asked addr len Atomic is = absurd (false≢true is)
+line_asked addr len Snoop is = absurd (false≢true is)
+line_asked addr len Look is = refl
+line_asked addr len Fix is = absurd (false≢true is)
+
 -- a word that is neither bad nor fixed has syndrome 0
 no_bit : (bits : List ℕ) → length bits ≤ 2 → nat_eq (length bits) 2 ≡ false → nat_eq (length bits) 1 ≡ false → columns_sum bits ≡ 0
 no_bit [] least two one = refl
@@ -160,30 +176,16 @@ module _ (s : AhbStatus) (t : Transfer) (m : MemoryState) where
 
   -- ---- a line
 
-  bad_at : (addrs : List ℕ) (place : ℕ) → is_bad_syndrome (slice_index (map (syndrome_at m) addrs) place) ≡ slice_index_or (map (is_bad_at m) addrs) place false
-  bad_at [] place = refl
-  bad_at (addr ∷ addrs) zero = bad_by_syndrome (met m addr)
-  bad_at (addr ∷ addrs) (suc place) = bad_at addrs place
-
   line_place : (line : ℕ) (place : Option ℕ) → noted_by s t (map (syndrome_at m) (words_of_line line)) place ≡ place_noted s t (line_shown m line) place
   line_place line None = refl
-  line_place line (Some place) = ap (λ (b : Bool). first_of s (noted_at t place b)) (bad_at (words_of_line line) place)
+  line_place line (Some place) = ap (λ (b : Bool). first_of s (noted_at t place b)) (bad_at m (words_of_line line) place)
 
   pub line_status : reads_line t.kind ≡ true → status_by s (with_answer (words_met m) t) ≡ line_noted s t (line_shown m t.addr)
   line_status is =
-      asks (words_of_line t.addr) (line_asked t.kind is)
+      asks (words_of_line t.addr) (line_asked t.addr t.len t.kind is)
       ∙ not_cleared s t _ (map (syndrome_at m) (words_of_line t.addr)) (not_fix t.kind is)
       ∙ line_place t.addr (first_unclean_of 8 (map (syndrome_at m) (words_of_line t.addr)))
     where
-      line_asked : (kind : TurnKind) → reads_line kind ≡ true → words_by_kind t.addr t.len kind ≡ words_of_line t.addr
-      line_asked Fetch is = refl
-      line_asked Load is = refl
-      line_asked Store is = absurd (false≢true is)
-      line_asked Atomic is = absurd (false≢true is)
-      line_asked Snoop is = absurd (false≢true is)
-      line_asked Look is = refl
-      line_asked Fix is = absurd (false≢true is)
-
       not_fix : (kind : TurnKind) → reads_line kind ≡ true → same_kind kind Fix ≡ false
       not_fix Fetch is = refl
       not_fix Load is = refl

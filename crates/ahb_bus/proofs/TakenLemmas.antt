@@ -20,7 +20,7 @@ use Rattle.ahb_bus.specs.declared.record.Who.{Who}
 use Rattle.ahb_bus.proofs.ShareLemmas.{core_left, scrub_left}
 
 -- the first of some bytes in RAM is in RAM
-first_in : (ram addr len : ℕ) → 1 ≤ len → IsTrue (is_in_ram ram addr len) → is_in_ram ram addr 1 ≡ true
+pub first_in : (ram addr len : ℕ) → 1 ≤ len → IsTrue (is_in_ram ram addr len) → is_in_ram ram addr 1 ≡ true
 first_in ram addr len some inside = grind (arith, nat_tests)
 
 pub some_length : (len : ℕ) → is_length len ≡ true → 1 ≤ len

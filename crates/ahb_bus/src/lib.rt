@@ -6,6 +6,7 @@
 
 mod arbiter;
 mod bus;
+mod finish;
 mod lines;
 mod noting;
 mod record;
@@ -16,4 +17,4 @@ mod transfer;
 pub use arbiter::grant;
 pub use bus::Bus;
 pub use bus_memory::Fixed;
-pub use record::Who;
+pub use record::{BusRecord, Who};
