@@ -11,3 +11,4 @@ pub mod EffectShape
 pub mod CourseReads
 pub mod CourseTouches
 pub mod CourseAnswers
+pub mod DrainLemmas
