@@ -10,3 +10,7 @@ pub mod SeenLog
 pub mod SeenRetired
 pub mod Rising
 pub mod SeenEnd
+pub mod Runs
+pub mod Completions
+pub mod Unseen
+pub mod StepTouches
