@@ -14,3 +14,6 @@ pub mod Runs
 pub mod Completions
 pub mod Unseen
 pub mod StepTouches
+pub mod Stops
+pub mod Steps
+pub mod StepsEnd
