@@ -26,7 +26,7 @@ grows_none k = record { reads = omega arith; steps = omega arith }
 pub grows_through : (i j k : Progress) → Grows i j → Grows j k → Grows i k
 grows_through i j k first second = record { reads = omega (arith, first.reads, second.reads); steps = omega (arith, first.steps, second.steps) }
 
-reads_more : (core got : ℕ) (x : Option Access) (ops : List Entry) → reads_of ops ≤ reads_of (with_access core got x ops)
+pub reads_more : (core got : ℕ) (x : Option Access) (ops : List Entry) → reads_of ops ≤ reads_of (with_access core got x ops)
 reads_more core got None ops = omega arith
 reads_more core got (Some a) ops = omega (arith, count_append entry_reads ops (operation core (length ops) got a ∷ []))
 

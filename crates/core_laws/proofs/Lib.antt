@@ -10,3 +10,10 @@ pub mod SeenLog
 pub mod SeenRetired
 pub mod Rising
 pub mod SeenEnd
+pub mod Runs
+pub mod Completions
+pub mod Unseen
+pub mod StepTouches
+pub mod Stops
+pub mod Steps
+pub mod StepsEnd
