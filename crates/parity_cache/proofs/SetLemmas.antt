@@ -1,5 +1,5 @@
 -- The slots of a set, one after the other.
-use Rattle.std.proofs.Common.{◌≡◌, ◌≢◌, ℕ, zero, suc, ◌+◌, ◌%◌, ◌<◌, ◌≤◌, Bool, true, false, ◌||◌, cond, List, [], ◌∷◌, length, map, slice_index_or, slice_set, Option, Some, None, refl, sym, ap, ◌∙◌, subst, arith, add-one}
+use Rattle.std.proofs.Common.{◌≡◌, ◌≢◌, ℕ, zero, suc, ◌+◌, ◌*◌, ◌/◌, ◌%◌, ◌<◌, ◌≤◌, Bool, true, false, ◌||◌, cond, List, [], ◌∷◌, length, map, slice_index_or, slice_set, Option, Some, None, refl, sym, ap, ◌∙◌, subst, arith, add-one}
 use Rattle.std.specs.Prelude.{find, fold}
 use Rattle.std.specs.List.{list_any, range_with_len}
 use Rattle.std.proofs.lemmas.Grind.{fold-append}
@@ -13,7 +13,7 @@ use Rattle.lf_model.specs.Flips.{Moment, is_struck_byte}
 use Rattle.lf_model.specs.declared.config.Shape.{Shape}
 use Rattle.parity_slots.specs.SlotState.{value_at}
 use Rattle.parity_slots.proofs.RangeLemmas.{range_more}
-use Rattle.parity_cache.specs.CacheState.{CacheState, line_at, with_cache, answer_of, victim_by, filled_in, filled_cache, stored_by, stored_cache}
+use Rattle.parity_cache.specs.CacheState.{CacheState, IsCleanSet, line_at, with_cache, answer_of, victim_by, filled_in, filled_cache, stored_by, stored_cache}
 use Rattle.lf_model.specs.declared.step.Look.TheVariants.{Hit}
 
 -- ---- the first slot of a set that passes a test
@@ -94,6 +94,20 @@ checked_next first count cache =
     ap (λ (n : ℕ). checked_from first n cache) (add-one count)
     ∙ ap (fold check_way (record { dropped = false; cache = cache })) (range_more first count)
     ∙ fold-append check_way (record { dropped = false; cache = cache }) (range_with_len first count) ((first + count) ∷ [])
+
+-- a set in which no tag byte is struck is checked without effect
+clean_from : (first n : ℕ) (cache : Cache) → ((w : ℕ) → w < n → has_struck_tag (slot_at (first + w) cache) ≡ false) → checked_from first n cache ≡ record { dropped = false; cache = cache }
+clean_from first zero cache clean = refl
+clean_from first (suc n) cache clean =
+    let kept : Checked = record { dropped = false; cache = cache } in
+    sym (ap (λ (m : ℕ). checked_from first m cache) (add-one n))
+    ∙ checked_next first n cache
+    ∙ ap (λ (k : Checked). check_way k (first + n)) (clean_from first n cache (λ w lt. clean w (omega (arith, lt))))
+    ∙ ap (λ (b : Bool). cond {A = Checked} b (record { dropped = true; cache = record (with_slot dropped_by_tag (first + n) cache) { tag_errors = raised cache.tag_errors } }) (record { dropped = false; cache = cache }))
+    (clean n (omega arith))
+
+pub clean_checked : (addr : ℕ) (cache : Cache) → IsCleanSet addr cache → checked addr cache ≡ record { dropped = false; cache = cache }
+clean_checked addr cache clean = clean_from (addr / 32 % cache.shape.sets * cache.shape.ways) cache.shape.ways cache clean
 
 -- ---- the least recently used way
 

@@ -84,7 +84,7 @@ impl ParityCache {
     }
 
     /// The slot of way 0 of the set of an address.
-    #[inline]
+    #[inline(always)]
     fn first_slot(&self, addr: u32) -> usize
         ensures first { result ≡ addr / 32 % self.now.cache.shape.sets * self.now.cache.shape.ways }
         ensures within { result + self.now.cache.shape.ways ≤ length self.now.cache.slots }
@@ -112,7 +112,9 @@ impl ParityCache {
     }
 
     /// The set of an address is checked, way by way. Answers whether a way was dropped.
-    fn check_set(&mut self, addr: u32) -> bool
+    #[cold]
+    #[inline(never)]
+    fn check_ways(&mut self, addr: u32) -> bool
         ensures dropped { result ≡ (checked addr self.old.cache).dropped }
         ensures checked { self.new ≡ with_cache (checked addr self.old.cache).cache self.old }
         ensures clean { IsCleanSet addr self.new.cache }
@@ -130,9 +132,40 @@ impl ParityCache {
         dropped
     }
 
+    /// Whether no tag byte of the set of an address is struck.
+    #[inline(always)]
+    fn is_clean_set(&self, addr: u32) -> bool
+        ensures { result ≡ true → IsCleanSet addr self.now.cache }
+    {
+        let first = self.first_slot(addr);
+        for way in 0..self.shape.ways as usize {
+            if self.slots.slot(first + way).has_struck_tag() {
+                return false;
+            }
+        }
+        true
+    }
+
+    /// The same as `check_ways`, at no more cost than a test of each way where no tag byte of the set is struck.
+    #[inline(always)]
+    fn check_set(&mut self, addr: u32) -> bool
+        ensures dropped { result ≡ (checked addr self.old.cache).dropped }
+        ensures checked { self.new ≡ with_cache (checked addr self.old.cache).cache self.old }
+        ensures clean { IsCleanSet addr self.new.cache }
+        ensures stays { StaysClean self.old.cache self.new.cache }
+        ensures uses { self.new.cache.uses ≡ self.old.cache.uses }
+        ensures keeps { Keeps 0 self.old self.new }
+    {
+        if self.is_clean_set(addr) {
+            return false;
+        }
+        self.check_ways(addr)
+    }
+
     // ---- the slots of a set
 
     /// The slot in which the line of an address is present. The set was checked.
+    #[inline(always)]
     fn matching(&self, addr: u32) -> Option<usize>
         requires { IsCleanSet addr self.now.cache }
         ensures slot { result ≡ matching addr self.now.cache }
@@ -203,6 +236,7 @@ impl ParityCache {
     }
 
     /// The slot becomes the most recently used.
+    #[inline(always)]
     fn use_slot(&mut self, i: usize)
         requires slot { i < length self.old.cache.slots }
         requires room { self.old.cache.uses + 1 < 2 ^ 32 }
@@ -216,6 +250,7 @@ impl ParityCache {
     // ---- what is done to a cache
 
     /// Looks an access up, of 1, 2, 4 or 8 bytes at a multiple of that.
+    #[inline(always)]
     pub fn look(&mut self, addr: u32, len: u8) -> Look
         requires access { IsAccess addr len }
         requires room { self.old.cache.uses + 1 < 2 ^ 32 }
@@ -233,6 +268,7 @@ impl ParityCache {
     }
 
     /// The look-up in the slot in which the line is present.
+    #[inline(always)]
     fn look_in(&mut self, i: usize, addr: u32, len: u8) -> Look
         requires slot { i < length self.old.cache.slots }
         requires unstruck { has_struck_tag (slot_at i self.old.cache) ≡ false }
@@ -258,6 +294,7 @@ impl ParityCache {
     }
 
     /// The way of a slot.
+    #[inline(always)]
     fn way_of(&self, i: usize) -> u8
         ensures { result ≡ way_of i self.now.cache }
     {
@@ -338,12 +375,12 @@ impl ParityCache {
     }
 
     /// The line in a slot is dropped.
-    fn drop_slot(&mut self, i: usize)
-        requires { i < length self.old.cache.slots }
-        ensures dropped { self.new ≡ with_cache (with_slot dropped i self.old.cache) self.old }
+    fn drop_slot(&mut self, slot: usize)
+        requires { slot < length self.old.cache.slots }
+        ensures dropped { self.new ≡ with_cache (with_slot dropped slot self.old.cache) self.old }
         ensures keeps { Keeps 0 self.old self.new }
     {
-        self.slots.drop_line(i);
+        self.slots.drop_line(slot);
     }
 
     /// Drops every line, without a check (FLUSH).

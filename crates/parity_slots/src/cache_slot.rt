@@ -69,7 +69,7 @@ impl Slot {
     }
 
     /// Whether a line is present.
-    #[inline]
+    #[inline(always)]
     pub fn is_present(&self) -> bool
         requires { has_struck_tag self.now.slot ≡ false }
         ensures { result ≡ is_present self.now.slot }
@@ -78,7 +78,7 @@ impl Slot {
     }
 
     /// Whether the line of this address is present.
-    #[inline]
+    #[inline(always)]
     pub fn holds(&self, addr: u32) -> bool
         requires { has_struck_tag self.now.slot ≡ false }
         ensures { result ≡ holds addr self.now.slot }
@@ -87,7 +87,7 @@ impl Slot {
     }
 
     /// Whether the parity of a tag byte is wrong.
-    #[inline]
+    #[inline(always)]
     pub fn has_struck_tag(&self) -> bool
         ensures { result ≡ has_struck_tag self.now.slot }
     {
@@ -95,7 +95,7 @@ impl Slot {
     }
 
     /// Whether word `place` of the line is valid.
-    #[inline]
+    #[inline(always)]
     fn is_valid_word(&self, place: usize) -> bool
         requires place { place < 8 }
         requires unstruck { has_struck_tag self.now.slot ≡ false }
@@ -105,7 +105,7 @@ impl Slot {
     }
 
     /// Whether the words that an access wants are valid.
-    #[inline]
+    #[inline(always)]
     pub fn has_wanted_words(&self, addr: u32, len: u8) -> bool
         requires access { IsAccess addr len }
         requires unstruck { has_struck_tag self.now.slot ≡ false }
@@ -116,7 +116,7 @@ impl Slot {
     }
 
     /// Whether the parity of a byte of a word of the line is wrong.
-    #[inline]
+    #[inline(always)]
     fn is_bad_word(&self, place: usize) -> bool
         requires { place < 8 }
         ensures { result ≡ has_struck_in (4 * place) 4 self.now.slot }
@@ -125,7 +125,7 @@ impl Slot {
     }
 
     /// Whether the parity of a byte of the words that an access wants is wrong.
-    #[inline]
+    #[inline(always)]
     pub fn has_struck_byte(&self, addr: u32, len: u8) -> bool
         requires { IsAccess addr len }
         ensures { result ≡ has_struck_byte addr len self.now.slot }
@@ -135,7 +135,7 @@ impl Slot {
     }
 
     /// What an access reads: the bytes of the line at its address.
-    #[inline]
+    #[inline(always)]
     pub fn value(&self, addr: u32, len: u8) -> u64
         requires access { IsAccess addr len }
         requires unstruck { has_struck_byte addr len self.now.slot ≡ false }
@@ -155,7 +155,7 @@ impl Slot {
     // ---- what happens to it
 
     /// It is used.
-    #[inline]
+    #[inline(always)]
     pub(crate) fn set_used(&mut self, at: u32)
         ensures { self.new ≡ used_at at self.old }
     {

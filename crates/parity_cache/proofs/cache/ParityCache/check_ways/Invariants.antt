@@ -4,7 +4,7 @@ use Rattle.lf_model.specs.Caches.Slot.{has_struck_tag}
 use Rattle.parity_cache.specs.CacheState.{with_cache}
 use Rattle.parity_cache.specs.Keeps.{Keeps, StaysClean}
 use Rattle.parity_cache.proofs.SetLemmas.{checked_from}
-use Rattle.parity_cache.proofs.cache.ParityCache.check_set.Given as goal
+use Rattle.parity_cache.proofs.cache.ParityCache.check_ways.Given as goal
 
 abbrev pub invariant-loop-way : goal.invariant-loop-way
 invariant-loop-way l = record {
