@@ -1,2 +1,3 @@
 pub mod NotedLemmas
 pub mod WalkLemmas
+pub mod WholeWalk
