@@ -19,3 +19,4 @@ pub mod Steps
 pub mod StepsEnd
 pub mod TurnCount
 pub mod LostAccount
+pub mod Errors
