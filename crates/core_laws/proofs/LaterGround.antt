@@ -31,7 +31,7 @@ read_there : (answers more : List ℕ) (a : Access) (ops : List Entry) (reads : 
     → answer_to (answers ++ more) ops (Some a) ≡ answer_to answers ops (Some a)
 read_there answers more a ops true e core got few = rw e (get_or_append_left answers more 0 (reads_of ops)
     (let n : reads_of (with_access core got (Some a) ops) ≡ reads_of ops + 1 = count_append entry_reads ops (operation core (length ops) got a ∷ []) ∙ rw e (omega arith) in
-     omega (arith, n, few)))
+    omega (arith, n, few)))
 read_there answers more a ops false e core got few = rw e refl
 
 answer_same : (answers more : List ℕ) (x : Option Access) (ops : List Entry) (core got : ℕ) → reads_of (with_access core got x ops) ≤ length answers
@@ -134,7 +134,7 @@ module _ (setup : Setup) (core : ℕ) (given later : Given) (end : CoreEnd) (ste
   transfers_same k [] h goes_on = refl
   transfers_same k (t ∷ ts) h goes_on =
       ap (λ j. fold (observe late) j ts)
-          (observe_same t k (before_earlier given.answers end steps _ _ (grows_transfers early (observe early k t) ts) h) goes_on.0)
+      (observe_same t k (before_earlier given.answers end steps _ _ (grows_transfers early (observe early k t) ts) h) goes_on.0)
       ∙ transfers_same (observe early k t) ts h goes_on.1
 
   -- the course so far is the same

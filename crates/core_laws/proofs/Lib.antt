@@ -17,3 +17,6 @@ pub mod StepTouches
 pub mod Stops
 pub mod Steps
 pub mod StepsEnd
+pub mod TurnCount
+pub mod LostAccount
+pub mod Errors

@@ -106,8 +106,8 @@ module _ (setup : Setup) (core : ℕ) (given later : Given) (end : CoreEnd) (ste
   right_turn_same t k past in_memory right = record {
     needed = rw past right.needed;
     placed = ap (λ u. record (with_word_count u) { syn = t.syn })
-            (ap (addressed_at is (next_effect is k) k t) (target_same t.kind t k (next_effect was k) in_memory right.placed)
-            ∙ addressed_same (target_of was k (next_effect was k) t.kind) t (next_effect was k) k past)
+        (ap (addressed_at is (next_effect is k) k t) (target_same t.kind t k (next_effect was k) in_memory right.placed)
+        ∙ addressed_same (target_of was k (next_effect was k) t.kind) t (next_effect was k) k past)
         ∙ right.placed;
   }
 
@@ -122,9 +122,9 @@ module _ (setup : Setup) (core : ℕ) (given later : Given) (end : CoreEnd) (ste
       let turning : IsBefore given.answers end steps (up_to was t (course was pre)) = before_earlier given.answers end steps _ _ (grows_own_turn was t (up_to was t (course was pre))) now in
       let before : IsBefore given.answers end steps (course was pre) = before_earlier given.answers end steps _ _ (grows_local_steps was (t.step - (course was pre).steps) (course was pre)) turning in
       subst (IsRightTurn is t)
-          (sym (ap (up_to is t) (course_same setup core given later end steps allowed pre goes_on before)
-          ∙ local_steps_same setup core given later end steps allowed (t.step - (course was pre).steps) (course was pre) turning))
-          (right_turn_same t (up_to was t (course was pre)) (past_turn t (up_to was t (course was pre)) now) in_memory right)
+      (sym (ap (up_to is t) (course_same setup core given later end steps allowed pre goes_on before)
+      ∙ local_steps_same setup core given later end steps allowed (t.step - (course was pre).steps) (course was pre) turning))
+      (right_turn_same t (up_to was t (course was pre)) (past_turn t (up_to was t (course was pre)) now) in_memory right)
 
   own_turn_at_split : (ts : List Transfer) (turn : ℕ) (found : Option Transfer) → slice_get ts turn ≡ found
       → Each (NoStop setup core given later end steps allowed) ts → IsBefore given.answers end steps (course was ts) → list_all (is_in_memory setup.config.ram) ts ≡ true
@@ -134,15 +134,15 @@ module _ (setup : Setup) (core : ℕ) (given later : Given) (end : CoreEnd) (ste
   own_turn_at_split ts turn (Some t) there goes_on before in_memory h = λ own.
       let split : ts ≡ take turn ts ++ t ∷ drop (turn + 1) ts = split_at ts turn t there in
       let after : course was ts ≡ fold (observe was) (observe was (course was (take turn ts)) t) (drop (turn + 1) ts) =
-          ap (course was) split ∙ fold-append (observe was) (start was) (take turn ts) (t ∷ drop (turn + 1) ts) in
+      ap (course was) split ∙ fold-append (observe was) (start was) (take turn ts) (t ∷ drop (turn + 1) ts) in
       let now : IsBefore given.answers end steps (own_turn was t (before_turn was ts turn t)) =
-          subst (IsBefore given.answers end steps) (observe_own was t (course was (take turn ts)) (eq-eqb core t.master own))
-              (before_earlier given.answers end steps _ _ (grows_transfers was (observe was (course was (take turn ts)) t) (drop (turn + 1) ts)) (subst (IsBefore given.answers end steps) after before)) in
+      subst (IsBefore given.answers end steps) (observe_own was t (course was (take turn ts)) (eq-eqb core t.master own))
+      (before_earlier given.answers end steps _ _ (grows_transfers was (observe was (course was (take turn ts)) t) (drop (turn + 1) ts)) (subst (IsBefore given.answers end steps) after before)) in
       right_turn_before (take turn ts) t
-          (each_first (NoStop setup core given later end steps allowed) (take turn ts) (t ∷ drop (turn + 1) ts) (subst (Each (NoStop setup core given later end steps allowed)) split goes_on))
-          now
-          (all_at (is_in_memory setup.config.ram) (take turn ts) (drop (turn + 1) ts) t (subst (λ us. list_all (is_in_memory setup.config.ram) us ≡ true) split in_memory))
-          (h own)
+      (each_first (NoStop setup core given later end steps allowed) (take turn ts) (t ∷ drop (turn + 1) ts) (subst (Each (NoStop setup core given later end steps allowed)) split goes_on))
+      now
+      (all_at (is_in_memory setup.config.ram) (take turn ts) (drop (turn + 1) ts) t (subst (λ us. list_all (is_in_memory setup.config.ram) us ≡ true) split in_memory))
+      (h own)
 
   -- each turn that the core made stays right
   pub own_turn_at_same : (ts : List Transfer) (turn : ℕ) → Each (NoStop setup core given later end steps allowed) ts → IsBefore given.answers end steps (course was ts)

@@ -34,9 +34,10 @@ module _ (setup : Setup) (core : ℕ) (answers : List ℕ) where
   onward_longer more q r true e step few = absurd (let no_step = rw e at step in cc)
   onward_longer more q r false e step few =
       let here : answered core answers q (effect_at_pc setup core q.state) ≡ r = same_Some _ _ (rw e at step) in
-      let read : reads_of (answered core answers q (effect_at_pc setup core q.state)).ops ≤ length answers = subst (λ (x : Run). reads_of x.ops ≤ length answers) (sym here) few in
-      ((let grows = reads_more core (answer_to answers q.ops (effect_at_pc setup core q.state).access) (effect_at_pc setup core q.state).access q.ops in omega (arith, grows, read))
-      , rw e (ap Some (answered_same core answers more (effect_at_pc setup core q.state) q read ∙ here)))
+      let read : reads_of (answered core answers q (effect_at_pc setup core q.state)).ops ≤ length answers = subst (λ (x : Run). reads_of x.ops ≤ length answers) (sym here) few in (
+        (let grows = reads_more core (answer_to answers q.ops (effect_at_pc setup core q.state).access) (effect_at_pc setup core q.state).access q.ops in omega (arith, grows, read)),
+        rw e (ap Some (answered_same core answers more (effect_at_pc setup core q.state) q read ∙ here)),
+      )
 
   -- numbers that are read later leave it
   pub run_longer : (more : List ℕ) (n : ℕ) (r : Run) → run setup core answers n ≡ Some r → reads_of r.ops ≤ length answers → run setup core (answers ++ more) n ≡ Some r

@@ -42,24 +42,24 @@ module _ (initial : ℕ → ℕ) (c : ℕ) (ops : List Op) (seen : List ℕ) (lo
     abbrev lost : Op → Op
     lost = lost_from e.k
 
-    abbrev first : List Op
+    abbrev pub first : List Op
     first = take (length (filter (is_entry_of c) log)) (filter stores ops)
 
-    abbrev rest : List Op
+    abbrev pub rest : List Op
     rest = drop (length (filter (is_entry_of c) log)) (filter stores ops)
 
-    parts : first ++ rest ≡ filter stores ops
+    pub parts : first ++ rest ≡ filter stores ops
     parts = take-append-drop (length (filter (is_entry_of c) log)) (filter stores ops)
 
     first_made : map made first ≡ filter (is_entry_of c) log
     first_made = sym (take-map made (length (filter (is_entry_of c) log)) (filter stores ops))
         ∙ (ap (take (length (filter (is_entry_of c) log))) (sym h.entries) ∙ take_at (filter (is_entry_of c) log) (e ∷ later) (length (filter (is_entry_of c) log)) refl)
 
-    rest_made : map made rest ≡ e ∷ later
+    pub rest_made : map made rest ≡ e ∷ later
     rest_made = sym (drop-map made (length (filter (is_entry_of c) log)) (filter stores ops))
         ∙ (ap (drop (length (filter (is_entry_of c) log))) (sym h.entries) ∙ drop_at (filter (is_entry_of c) log) (e ∷ later) (length (filter (is_entry_of c) log)) refl)
 
-    numbers : Each (λ (o : Op). o.k < e.k) first × Each (λ (o : Op). e.k ≤ o.k) rest
+    pub numbers : Each (λ (o : Op). o.k < e.k) first × Each (λ (o : Op). e.k ≤ o.k) rest
     numbers = split_numbers first rest e later
         (subst (Rises 0) (sym parts) (rises_filter stores 0 ops (rises_numbered 0 ops (λ k. if_there (slice_get ops k) (λ (o : Op). o.k ≡ k) (λ (o : Op). o.k ≡ 0 + k) (h.numbered k) (λ o there same. omega (arith, same))))))
         rest_made
@@ -69,7 +69,7 @@ module _ (initial : ℕ → ℕ) (c : ℕ) (ops : List Op) (seen : List ℕ) (lo
     kinds = subst (Each (λ o. stores o ≡ true)) (sym parts) (each_passes stores ops)
 
     -- those that wait are stores
-    rest_stores : Each (λ o. is_store o ≡ true) rest
+    pub rest_stores : Each (λ o. is_store o ≡ true) rest
     rest_stores = each_both (λ (o : Op). stores o ≡ true) (λ (o : Op). entry_reads (made o) ≡ false) (λ (o : Op). is_store o ≡ true) rest
         (λ o stores_ plain. plain_store o.kind stores_ plain) (each_second (λ o. stores o ≡ true) first rest kinds)
         (each_unmap (λ x. entry_reads x ≡ false) made rest (subst (Each (λ x. entry_reads x ≡ false)) (sym rest_made) h.stores_wait))
@@ -77,17 +77,17 @@ module _ (initial : ℕ → ℕ) (c : ℕ) (ops : List Op) (seen : List ℕ) (lo
     late_stores : Each (λ (o : Op). stores o ≡ true → e.k ≤ o.k → is_store o ≡ true) ops
     late_stores = each_unfilter (λ (o : Op). e.k ≤ o.k → is_store o ≡ true) stores ops (subst (Each (λ (o : Op). e.k ≤ o.k → is_store o ≡ true)) parts
         (each_append (λ (o : Op). e.k ≤ o.k → is_store o ≡ true) first rest
-            (each_weaker (λ (o : Op). o.k < e.k) (λ (o : Op). e.k ≤ o.k → is_store o ≡ true) first (λ o below above. absurd (omega arith)) numbers.0)
-            (each_weaker (λ (o : Op). is_store o ≡ true) (λ (o : Op). e.k ≤ o.k → is_store o ≡ true) rest (λ o store above. store) rest_stores)))
+        (each_weaker (λ (o : Op). o.k < e.k) (λ (o : Op). e.k ≤ o.k → is_store o ≡ true) first (λ o below above. absurd (omega arith)) numbers.0)
+        (each_weaker (λ (o : Op). is_store o ≡ true) (λ (o : Op). e.k ≤ o.k → is_store o ≡ true) rest (λ o store above. store) rest_stores)))
 
     -- ---- those that enter the log are those that did
 
     early_enters : Each (λ (o : Op). enters (lost o) ≡ true) first
     early_enters = each_both (λ (o : Op). o.k < e.k) (λ (o : Op). o.k < e.k → enters (lost o) ≡ true) (λ (o : Op). enters (lost o) ≡ true) first (λ o below f. f below) numbers.0
         (each_both (λ (o : Op). stores o ≡ true) (λ (o : Op). is_lost o ≡ false) (λ (o : Op). o.k < e.k → enters (lost o) ≡ true) first
-            (λ o stores_ not_lost below. rw (lt-leb e.k o.k below) (enters_early o.kind stores_ not_lost))
-            (each_first (λ o. stores o ≡ true) first rest kinds)
-            (each_first (λ o. is_lost o ≡ false) first rest (subst (Each (λ o. is_lost o ≡ false)) (sym parts) (each_filter (λ o. is_lost o ≡ false) stores ops h.none_lost))))
+        (λ o stores_ not_lost below. rw (lt-leb e.k o.k below) (enters_early o.kind stores_ not_lost))
+        (each_first (λ o. stores o ≡ true) first rest kinds)
+        (each_first (λ o. is_lost o ≡ false) first rest (subst (Each (λ o. is_lost o ≡ false)) (sym parts) (each_filter (λ o. is_lost o ≡ false) stores ops h.none_lost))))
 
     late_lost_all : Each (λ (o : Op). enters (lost o) ≡ false) rest
     late_lost_all = each_both (λ (o : Op). e.k ≤ o.k) (λ (o : Op). is_store o ≡ true) (λ (o : Op). enters (lost o) ≡ false) rest
@@ -116,7 +116,7 @@ module _ (initial : ℕ → ℕ) (c : ℕ) (ops : List Op) (seen : List ℕ) (lo
     lost_above : Each (λ (x : Op). is_lost x ≡ true → e.k ≤ x.k) (losing e.k ops)
     lost_above = each_map (λ (x : Op). is_lost x ≡ true → e.k ≤ x.k) lost ops
         (each_weaker (λ (o : Op). is_lost o ≡ false) (λ (o : Op). is_lost (lost o) ≡ true → e.k ≤ o.k) ops
-            (λ o not_lost now. leb-true e.k o.k (late_lost o.kind (nat_le e.k o.k) not_lost now)) h.none_lost)
+        (λ o not_lost now. leb-true e.k o.k (late_lost o.kind (nat_le e.k o.k) not_lost now)) h.none_lost)
 
     below_by : (o : Op) (late : Bool) → nat_le e.k o.k ≡ late → (stores o ≡ true → e.k ≤ o.k → is_store o ≡ true) → kind_enters (lost_if late o.kind) ≡ true → o.k < e.k
     below_by o true is f now = let not_so = lost_late o.kind (f (enters_stores o.kind true now) (leb-true e.k o.k is)) in absurd (cc)
@@ -125,7 +125,7 @@ module _ (initial : ℕ → ℕ) (c : ℕ) (ops : List Op) (seen : List ℕ) (lo
     enters_below : Each (λ (o : Op). enters o ≡ true → o.k < e.k) (losing e.k ops)
     enters_below = each_map (λ (o : Op). enters o ≡ true → o.k < e.k) lost ops
         (each_weaker (λ (o : Op). stores o ≡ true → e.k ≤ o.k → is_store o ≡ true) (λ (o : Op). enters (lost o) ≡ true → o.k < e.k) ops
-            (λ o f now. below_by o (nat_le e.k o.k) refl f now) late_stores)
+        (λ o f now. below_by o (nat_le e.k o.k) refl f now) late_stores)
 
     -- ---- its loads read what they read
 
@@ -133,7 +133,7 @@ module _ (initial : ℕ → ℕ) (c : ℕ) (ops : List Op) (seen : List ℕ) (lo
     waits_same k es =
         ap (λ os. map made (drop (count_by (is_entry_of c) es) (filter stores os))) (take-map lost k ops)
         ∙ (ap (λ os. map made (drop (count_by (is_entry_of c) es) os)) (sym (filter_map_same stores stores lost (take k ops)
-            (each_every (λ (o : Op). stores o ≡ stores (lost o)) (take k ops) (λ o. sym (stores_stays o.kind (nat_le e.k o.k))))))
+        (each_every (λ (o : Op). stores o ≡ stores (lost o)) (take k ops) (λ o. sym (stores_stays o.kind (nat_le e.k o.k))))))
         ∙ (ap (map made) (drop-map lost (count_by (is_entry_of c) es) (filter stores (take k ops)))
         ∙ losing_made e.k (drop (count_by (is_entry_of c) es) (filter stores (take k ops)))))
 
@@ -163,5 +163,5 @@ module _ (initial : ℕ → ℕ) (c : ℕ) (ops : List Op) (seen : List ℕ) (lo
       atomics_seen = h.atomics_seen;
       lost_last = each_weaker (λ (x : Op). is_lost x ≡ true → e.k ≤ x.k) (LostIsLast (losing e.k ops)) (losing e.k ops)
           (λ x above is_lost_. each_weaker (λ (o : Op). enters o ≡ true → o.k < e.k) (λ (o : Op). enters o ≡ true → o.k < x.k) (losing e.k ops)
-              (λ o below now. omega (arith, below now, above is_lost_)) enters_below) lost_above;
+          (λ o below now. omega (arith, below now, above is_lost_)) enters_below) lost_above;
     }

@@ -36,7 +36,7 @@ module _ (initial : ℕ → ℕ) (c : ℕ) (ops : List Op) (seen : List ℕ) (lo
     | inr past ↦
         let split : p ≡ length log + (p - length log) = omega arith in
         if_there (slice_get (log ++ more) p) (λ e. Unit {0}) (λ e. P e p (take p (log ++ more))) (any (slice_get (log ++ more) p))
-            (λ e there u. each_get (λ x. (q : ℕ) (es : List Entry) → P x q es) more (p - length log) e later (sym (get_second log more (p - length log)) ∙ (ap (slice_get (log ++ more)) (sym split) ∙ there)) p (take p (log ++ more)))
+        (λ e there u. each_get (λ x. (q : ℕ) (es : List Entry) → P x q es) more (p - length log) e later (sym (get_second log more (p - length log)) ∙ (ap (slice_get (log ++ more)) (sym split) ∙ there)) p (take p (log ++ more)))
   ]
     where
       any : (found : Option Entry) → IfSome found (λ e. Unit {0})
@@ -121,9 +121,9 @@ module _ (initial : ℕ → ℕ) (c : ℕ) (ops : List Op) (seen : List ℕ) (lo
       → HasSeenSoFar initial c ops seen (log ++ e ∷ []) later
   seen_drain e later h =
       grown (e ∷ later) (e ∷ []) later h ((λ own reads. absurd (let plain = h.stores_wait.0 in cc)), tt)
-          (ap (λ es. es ++ later) (filter-append (is_entry_of c) log (e ∷ []) ∙ ap (λ es. filter (is_entry_of c) log ++ es) own_entry)
-          ∙ (append_assoc (filter (is_entry_of c) log) (e ∷ []) later ∙ h.entries))
-          h.stores_wait.1
+      (ap (λ es. es ++ later) (filter-append (is_entry_of c) log (e ∷ []) ∙ ap (λ es. filter (is_entry_of c) log ++ es) own_entry)
+      ∙ (append_assoc (filter (is_entry_of c) log) (e ∷ []) later ∙ h.entries))
+      h.stores_wait.1
     where
       all_own : Each (λ (x : Entry). x.core ≡ c) (filter (is_entry_of c) log ++ e ∷ later)
       all_own = subst (Each (λ (x : Entry). x.core ≡ c)) (sym h.entries) (each_map (λ (x : Entry). x.core ≡ c) made (filter stores ops) (each_filter (λ (o : Op). o.core ≡ c) stores ops h.of_core))

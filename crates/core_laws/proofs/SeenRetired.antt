@@ -71,10 +71,10 @@ module _ (initial : ℕ → ℕ) (c : ℕ) where
     seen_kept : (s p : ℕ) → p < length log → AtomicIsSeen c (seen ++ s ∷ []) log p
     seen_kept s p within =
         if_there (slice_get log p) (λ (e : Entry). e.core ≡ c → kind_reads e.kind ≡ true → p < slice_index seen e.k)
-            (λ (e : Entry). e.core ≡ c → kind_reads e.kind ≡ true → p < slice_index (seen ++ s ∷ []) e.k) (h.atomics_seen p within)
-            (λ e there f own reads.
-                let below : e.k < length ops = each_get (λ (e : Entry). is_entry_of c e ≡ true → e.k < length ops) log p e own_below there (eq-eqb e.core c own) in
-                rw (get_or_append_left seen (s ∷ []) 0 e.k (omega (arith, below, h.one_each))) (f own reads))
+        (λ (e : Entry). e.core ≡ c → kind_reads e.kind ≡ true → p < slice_index (seen ++ s ∷ []) e.k) (h.atomics_seen p within)
+        (λ e there f own reads.
+        let below : e.k < length ops = each_get (λ (e : Entry). is_entry_of c e ≡ true → e.k < length ops) log p e own_below there (eq-eqb e.core c own) in
+        rw (get_or_append_left seen (s ∷ []) 0 e.k (omega (arith, below, h.one_each))) (f own reads))
 
     module _ (o : Op) (own : o.core ≡ c) (number : o.k ≡ length ops) where
       stores_more : map made (filter stores (ops ++ o ∷ [])) ≡ map made (filter stores ops) ++ map made (filter stores (o ∷ []))
@@ -147,20 +147,20 @@ module _ (initial : ℕ → ℕ) (c : ℕ) where
       pub seen_load : o.kind ≡ Load → Reads initial (made o) (log ++ buffer) → HasSeenSoFar initial c (ops ++ o ∷ []) (seen ++ length log ∷ []) log buffer
       seen_load kind reads =
           pushed (length log) log buffer (omega arith) (omega arith) (λ n le. refl) (rw kind refl)
-              (rw (get_behind ops [] o, get_or_push seen (length log) 0 (length ops) h.one_each, take_all (length log) log (omega arith), take_at ops (o ∷ []) (length ops) refl, waits) (λ load. reads))
-              below_next h.atomics
-              (h.entries ∙ (sym (append-nil (map made (filter stores ops))) ∙ (ap (λ es. map made (filter stores ops) ++ es) (rw kind refl) ∙ sym stores_more)))
-              (seen_kept (length log)) h.stores_wait
+          (rw (get_behind ops [] o, get_or_push seen (length log) 0 (length ops) h.one_each, take_all (length log) log (omega arith), take_at ops (o ∷ []) (length ops) refl, waits) (λ load. reads))
+          below_next h.atomics
+          (h.entries ∙ (sym (append-nil (map made (filter stores ops))) ∙ (ap (λ es. map made (filter stores ops) ++ es) (rw kind refl) ∙ sym stores_more)))
+          (seen_kept (length log)) h.stores_wait
 
       -- a store retires into the store buffer
       pub seen_store : o.kind ≡ Store → HasSeenSoFar initial c (ops ++ o ∷ []) (seen ++ length log ∷ []) log (buffer ++ made o ∷ [])
       seen_store kind =
           pushed (length log) log (buffer ++ made o ∷ []) (omega arith) (omega arith) (λ n le. refl) (rw kind refl)
-              (not_load (length log) log (rw kind refl))
-              below_next h.atomics
-              (sym (append_assoc (filter (is_entry_of c) log) buffer (made o ∷ [])) ∙ (ap (λ es. es ++ made o ∷ []) h.entries ∙ (ap (λ es. map made (filter stores ops) ++ es) (rw kind refl) ∙ sym stores_more)))
-              (seen_kept (length log))
-              (each_append (λ e. entry_reads e ≡ false) buffer (made o ∷ []) h.stores_wait (rw kind refl, tt))
+          (not_load (length log) log (rw kind refl))
+          below_next h.atomics
+          (sym (append_assoc (filter (is_entry_of c) log) buffer (made o ∷ [])) ∙ (ap (λ es. es ++ made o ∷ []) h.entries ∙ (ap (λ es. map made (filter stores ops) ++ es) (rw kind refl) ∙ sym stores_more)))
+          (seen_kept (length log))
+          (each_append (λ e. entry_reads e ≡ false) buffer (made o ∷ []) h.stores_wait (rw kind refl, tt))
 
       own_entry : filter (is_entry_of c) (made o ∷ []) ≡ made o ∷ []
       own_entry = rw (eq-eqb o.core c own) refl
@@ -169,17 +169,17 @@ module _ (initial : ℕ → ℕ) (c : ℕ) where
       pub seen_atomic : buffer ≡ [] → o.kind ≡ Atomic → Reads initial (made o) log → HasSeenSoFar initial c (ops ++ o ∷ []) (seen ++ (length log + 1) ∷ []) (log ++ made o ∷ []) []
       seen_atomic none kind reads =
           pushed (length log + 1) (log ++ made o ∷ []) [] (omega arith) (omega (arith, length_push log (made o))) (λ n le. take-append-le n log (made o ∷ []) le) (rw kind refl)
-              (not_load (length log + 1) (log ++ made o ∷ []) (rw kind refl))
-              (each_append (λ (e : Entry). e.core ≡ c → e.k ≤ length ops) log (made o ∷ []) below_next ((λ own'. omega (arith, number)), tt))
-              (λ p lt. one_more (AtomicReads initial c (log ++ made o ∷ [])) (length log)
-                  (λ q within. rw (get_first log (made o ∷ []) q within, take-append-le q log (made o ∷ []) (omega arith)) (h.atomics q within))
-                  (rw (get_behind log [] (made o), take_at log (made o ∷ []) (length log) refl) (λ own' atomic. reads)) p (omega (arith, lt, length_push log (made o))))
-              (append-nil (filter (is_entry_of c) (log ++ made o ∷ []))
-              ∙ (filter-append (is_entry_of c) log (made o ∷ [])
-              ∙ (ap (λ es. filter (is_entry_of c) log ++ es) own_entry
-              ∙ (ap (λ es. es ++ made o ∷ []) (sym (append-nil (filter (is_entry_of c) log)) ∙ (ap (λ es. filter (is_entry_of c) log ++ es) (sym none) ∙ h.entries))
-              ∙ (ap (λ es. map made (filter stores ops) ++ es) (rw kind refl) ∙ sym stores_more)))))
-              (λ p lt. one_more (AtomicIsSeen c (seen ++ (length log + 1) ∷ []) (log ++ made o ∷ [])) (length log)
-                  (λ q within. rw (get_first log (made o ∷ []) q within) (seen_kept (length log + 1) q within))
-                  (rw (get_behind log [] (made o), number, get_or_push seen (length log + 1) 0 (length ops) h.one_each) (λ own' atomic. omega arith)) p (omega (arith, lt, length_push log (made o))))
-              tt
+          (not_load (length log + 1) (log ++ made o ∷ []) (rw kind refl))
+          (each_append (λ (e : Entry). e.core ≡ c → e.k ≤ length ops) log (made o ∷ []) below_next ((λ own'. omega (arith, number)), tt))
+          (λ p lt. one_more (AtomicReads initial c (log ++ made o ∷ [])) (length log)
+          (λ q within. rw (get_first log (made o ∷ []) q within, take-append-le q log (made o ∷ []) (omega arith)) (h.atomics q within))
+          (rw (get_behind log [] (made o), take_at log (made o ∷ []) (length log) refl) (λ own' atomic. reads)) p (omega (arith, lt, length_push log (made o))))
+          (append-nil (filter (is_entry_of c) (log ++ made o ∷ []))
+          ∙ (filter-append (is_entry_of c) log (made o ∷ [])
+          ∙ (ap (λ es. filter (is_entry_of c) log ++ es) own_entry
+          ∙ (ap (λ es. es ++ made o ∷ []) (sym (append-nil (filter (is_entry_of c) log)) ∙ (ap (λ es. filter (is_entry_of c) log ++ es) (sym none) ∙ h.entries))
+          ∙ (ap (λ es. map made (filter stores ops) ++ es) (rw kind refl) ∙ sym stores_more)))))
+          (λ p lt. one_more (AtomicIsSeen c (seen ++ (length log + 1) ∷ []) (log ++ made o ∷ [])) (length log)
+          (λ q within. rw (get_first log (made o ∷ []) q within) (seen_kept (length log + 1) q within))
+          (rw (get_behind log [] (made o), number, get_or_push seen (length log + 1) 0 (length ops) h.one_each) (λ own' atomic. omega arith)) p (omega (arith, lt, length_push log (made o))))
+          tt

@@ -1,5 +1,5 @@
 -- The steps of a core and its transfers at its end are what its record says.
-use Rattle.std.proofs.Common.{◌≡◌, ◌∙◌, ◌+◌, ◌-◌, ◌<◌, ◌≤◌, ◌==◌, ◌&&◌, ◌||◌, ◌++◌, ℕ, suc, Bool, true, false, not, nat_lt, nat_le, List, [], ◌∷◌, length, filter, refl, ap, sym, subst, arith, inl, inr, if◌then◌else◌}
+use Rattle.std.proofs.Common.{◌≡◌, ◌∙◌, ◌+◌, ◌-◌, ◌<◌, ◌≤◌, ◌==◌, ◌&&◌, ◌||◌, ◌++◌, ℕ, Bool, true, false, not, nat_lt, nat_le, List, [], ◌∷◌, length, filter, refl, ap, sym, subst, arith, inl, inr, if◌then◌else◌}
 use Rattle.std.proofs.lemmas.Bool.{cases_Bool, lt-ltb, le-ltb, lt-leb, le-leb, eqb-true, eq-eqb, ne_eqb, or_left, and_parts, and_from, and_right}
 use Rattle.std.proofs.lemmas.List.{append-nil, length_push}
 use Rattle.std.proofs.lemmas.List.Elements.{filter-append}
@@ -37,14 +37,14 @@ same_retiring : (end : CoreEnd) (ts : List Transfer) → Each (λ (t : Transfer)
 same_retiring end ts no_stop =
     sym (length-filter (retires_instruction end) ts)
     ∙ (ap length (filter_same (retires_instruction end) (retires_instruction Limit) ts
-        (each_weaker (λ (t : Transfer). is_stop_at t.turn end ≡ false) (λ (t : Transfer). retires_instruction end t ≡ retires_instruction Limit t) ts (λ t f. rw f refl) no_stop))
+    (each_weaker (λ (t : Transfer). is_stop_at t.turn end ≡ false) (λ (t : Transfer). retires_instruction end t ≡ retires_instruction Limit t) ts (λ t f. rw f refl) no_stop))
     ∙ length-filter (retires_instruction Limit) ts)
 
 -- none of them is of the step after these
 none_last : (steps : ℕ) (ts : List Transfer) → Each (λ (t : Transfer). t.step < steps) ts → Each (λ (t : Transfer). is_of_last_step (steps + 1) t ≡ false) ts
 none_last steps ts below =
     each_weaker (λ (t : Transfer). t.step < steps) (λ (t : Transfer). is_of_last_step (steps + 1) t ≡ false) ts
-        (λ t less. ne_eqb (t.step + 1) (steps + 1) (λ same. absurd (omega (arith, less, same)))) below
+    (λ t less. ne_eqb (t.step + 1) (steps + 1) (λ same. absurd (omega (arith, less, same)))) below
 
 -- a drain after the last step
 drain_step : (limit : ℕ) (t : Transfer) → is_last_drain limit t ≡ true → t.step ≡ limit
@@ -75,21 +75,21 @@ module _ (setup : Setup) (r : CoreResult) where
     first_part =
         filter-append (λ (t : Transfer). nat_lt t.step r.steps) within past
         ∙ (ap (λ us. us ++ filter (λ (t : Transfer). nat_lt t.step r.steps) past)
-            (filter_all (λ (t : Transfer). nat_lt t.step r.steps) within
-                (each_weaker (λ (t : Transfer). t.step < r.steps) (λ (t : Transfer). nat_lt t.step r.steps ≡ true) within (λ t less. lt-ltb t.step r.steps less) below))
+        (filter_all (λ (t : Transfer). nat_lt t.step r.steps) within
+        (each_weaker (λ (t : Transfer). t.step < r.steps) (λ (t : Transfer). nat_lt t.step r.steps ≡ true) within (λ t less. lt-ltb t.step r.steps less) below))
         ∙ (ap (λ us. within ++ us)
-            (filter_none (λ (t : Transfer). nat_lt t.step r.steps) past
-                (each_weaker (λ (t : Transfer). r.steps ≤ t.step) (λ (t : Transfer). nat_lt t.step r.steps ≡ false) past (λ t le. le-ltb t.step r.steps le) above))
+        (filter_none (λ (t : Transfer). nat_lt t.step r.steps) past
+        (each_weaker (λ (t : Transfer). r.steps ≤ t.step) (λ (t : Transfer). nat_lt t.step r.steps ≡ false) past (λ t le. le-ltb t.step r.steps le) above))
         ∙ append-nil within))
 
     second_part : past_steps r.steps (within ++ past) ≡ past
     second_part =
         filter-append (λ (t : Transfer). nat_le r.steps t.step) within past
         ∙ (ap (λ us. us ++ filter (λ (t : Transfer). nat_le r.steps t.step) past)
-            (filter_none (λ (t : Transfer). nat_le r.steps t.step) within
-                (each_weaker (λ (t : Transfer). t.step < r.steps) (λ (t : Transfer). nat_le r.steps t.step ≡ false) within (λ t less. lt-leb r.steps t.step less) below))
+        (filter_none (λ (t : Transfer). nat_le r.steps t.step) within
+        (each_weaker (λ (t : Transfer). t.step < r.steps) (λ (t : Transfer). nat_le r.steps t.step ≡ false) within (λ t less. lt-leb r.steps t.step less) below))
         ∙ filter_all (λ (t : Transfer). nat_le r.steps t.step) past
-                (each_weaker (λ (t : Transfer). r.steps ≤ t.step) (λ (t : Transfer). nat_le r.steps t.step ≡ true) past (λ t le. le-leb r.steps t.step le) above))
+        (each_weaker (λ (t : Transfer). r.steps ≤ t.step) (λ (t : Transfer). nat_le r.steps t.step ≡ true) past (λ t le. le-leb r.steps t.step le) above))
 
   -- what a record says, by the two parts
   by_parts : (within past : List Transfer) → Each (λ (t : Transfer). t.step < r.steps) within → Each (λ t. is_last_drain limit t ≡ true) past → r.steps ≤ limit
@@ -97,7 +97,7 @@ module _ (setup : Setup) (r : CoreResult) where
       → (not (is_halt r.end) || last_retires r.end r.steps within) ≡ true → HasSteps setup r (within ++ past)
   by_parts within past below drains allowed up few all_made retired halting =
       let above : Each (λ (t : Transfer). r.steps ≤ t.step) past = each_weaker (λ t. is_last_drain limit t ≡ true) (λ (t : Transfer). r.steps ≤ t.step) past
-          (λ t drain. omega (arith, allowed, drain_step limit t drain)) drains in
+      (λ t drain. omega (arith, allowed, drain_step limit t drain)) drains in
       let first : within ≡ in_steps r.steps (within ++ past) = sym (first_part within past below above) in
       let second : past ≡ past_steps r.steps (within ++ past) = sym (second_part within past below above) in
       record {
@@ -117,9 +117,9 @@ module _ (setup : Setup) (r : CoreResult) where
       → Each (λ (t : Transfer). is_stop_at t.turn r.end ≡ false) within → (not (is_halt r.end) || last_retires r.end r.steps within) ≡ true → HasSteps setup r (within ++ past)
   ends_past_steps waiting within past h no_cell no_stop halting =
       by_parts within past h.in_steps h.drains h.allowed h.ascending (omega (arith, h.few)) h.all_made
-          (retiring_by r.end r.steps within false (count_by (retires_instruction Limit) within) (rw no_cell refl) (same_retiring r.end within no_stop)
-          ∙ omega (arith, h.retired, ascends_few 0 r.steps within (omega arith) h.ascending h.in_steps))
-          halting
+      (retiring_by r.end r.steps within false (count_by (retires_instruction Limit) within) (rw no_cell refl) (same_retiring r.end within no_stop)
+      ∙ omega (arith, h.retired, ascends_few 0 r.steps within (omega arith) h.ascending h.in_steps))
+      halting
 
   module _ (steps n waiting : ℕ) (within past : List Transfer) (h : HasStepsSoFar limit steps n waiting within past) (below : steps < limit) (made : r.steps ≡ steps + 1) where
     few_within : length within ≤ steps
@@ -138,34 +138,34 @@ module _ (setup : Setup) (r : CoreResult) where
     pub ends_halted : (tt_ : ℕ) → r.end ≡ Halt tt_ → r.n ≡ n + 1 → HasSteps setup r (within ++ past)
     ends_halted tt_ end counted =
         by_parts within past in_result h.drains (omega (arith, made)) h.ascending few_past none_after
-            (retiring_by r.end r.steps within false (count_by (retires_instruction Limit) within) (rw end refl) (rw end refl) ∙ omega (arith, h.retired, few_within, made, counted))
-            (rw (end, made) (all_pass _ within (each_weaker (λ (t : Transfer). is_of_last_step (steps + 1) t ≡ false)
-                (λ (t : Transfer). (not (is_of_last_step (steps + 1) t) || retires_instruction (Halt tt_) t) ≡ true) within (λ t not_last. rw not_last refl) (none_last steps within h.in_steps))))
+        (retiring_by r.end r.steps within false (count_by (retires_instruction Limit) within) (rw end refl) (rw end refl) ∙ omega (arith, h.retired, few_within, made, counted))
+        (rw (end, made) (all_pass _ within (each_weaker (λ (t : Transfer). is_of_last_step (steps + 1) t ≡ false)
+        (λ (t : Transfer). (not (is_of_last_step (steps + 1) t) || retires_instruction (Halt tt_) t) ≡ true) within (λ t not_last. rw not_last refl) (none_last steps within h.in_steps))))
 
     -- a register cell stopped the core in its last step, without a turn
     pub ends_at_register : is_register_stop r.end ≡ true → r.n ≡ n → HasSteps setup r (within ++ past)
     ends_at_register stop counted =
         by_parts within past in_result h.drains (omega (arith, made)) h.ascending few_past none_after
-            (retiring_by r.end r.steps within true (count_by (retires_instruction Limit) within)
-                (rw (stop, made) (ap not (none_passes (is_of_last_step (steps + 1)) within (none_last steps within h.in_steps))))
-                (same_retiring r.end within (each_weaker (λ (t : Transfer). t.step < steps) (λ (t : Transfer). is_stop_at t.turn r.end ≡ false) within (λ t less. register_at_no_turn r.end t.turn stop) h.in_steps))
-            ∙ omega (arith, h.retired, few_within, made, counted))
-            (or_left (not (is_halt r.end)) (last_retires r.end r.steps within) (ap not (register_no_halt r.end stop)))
+        (retiring_by r.end r.steps within true (count_by (retires_instruction Limit) within)
+        (rw (stop, made) (ap not (none_passes (is_of_last_step (steps + 1)) within (none_last steps within h.in_steps))))
+        (same_retiring r.end within (each_weaker (λ (t : Transfer). t.step < steps) (λ (t : Transfer). is_stop_at t.turn r.end ≡ false) within (λ t less. register_at_no_turn r.end t.turn stop) h.in_steps))
+        ∙ omega (arith, h.retired, few_within, made, counted))
+        (or_left (not (is_halt r.end)) (last_retires r.end r.steps within) (ap not (register_no_halt r.end stop)))
 
     -- the turn of its last step stopped it
     pub ends_at_turn : (t : Transfer) → t.step ≡ steps → is_stop_at t.turn r.end ≡ true → Each (λ (u : Transfer). is_stop_at u.turn r.end ≡ false) within → r.n ≡ n
         → HasSteps setup r ((within ++ t ∷ []) ++ past)
     ends_at_turn t step stop no_stop counted =
         by_parts (within ++ t ∷ []) past
-            (each_append (λ (u : Transfer). u.step < r.steps) within (t ∷ []) in_result (omega (arith, step, made), tt))
-            h.drains (omega (arith, made))
-            (ascends_more 0 within t (omega arith) h.ascending (subst (λ s. Each (λ (u : Transfer). u.step < s) within) (sym step) h.in_steps))
-            few_past none_after
-            (retiring_by r.end r.steps (within ++ t ∷ []) false (count_by (retires_instruction Limit) within)
-                (rw (turn_by_no_register r.end t.turn stop) refl)
-                (count_append (retires_instruction r.end) within (t ∷ []) ∙ omega (arith, same_retiring r.end within no_stop, retires_nothing))
-            ∙ omega (arith, h.retired, few_within, made, counted, length_push within t))
-            (or_left (not (is_halt r.end)) (last_retires r.end r.steps (within ++ t ∷ [])) (ap not (stop_no_halt r.end t.turn stop)))
+        (each_append (λ (u : Transfer). u.step < r.steps) within (t ∷ []) in_result (omega (arith, step, made), tt))
+        h.drains (omega (arith, made))
+        (ascends_more 0 within t (omega arith) h.ascending (subst (λ s. Each (λ (u : Transfer). u.step < s) within) (sym step) h.in_steps))
+        few_past none_after
+        (retiring_by r.end r.steps (within ++ t ∷ []) false (count_by (retires_instruction Limit) within)
+        (rw (turn_by_no_register r.end t.turn stop) refl)
+        (count_append (retires_instruction r.end) within (t ∷ []) ∙ omega (arith, same_retiring r.end within no_stop, retires_nothing))
+        ∙ omega (arith, h.retired, few_within, made, counted, length_push within t))
+        (or_left (not (is_halt r.end)) (last_retires r.end r.steps (within ++ t ∷ [])) (ap not (stop_no_halt r.end t.turn stop)))
       where
         retires_nothing : count_by (retires_instruction r.end) (t ∷ []) ≡ 0
         retires_nothing = rw (stop, and_right (same_kind t.kind kinds.Atomic) false refl) refl
@@ -194,5 +194,5 @@ pub steps_bound : (setup : Setup) (r : CoreResult) (c : ℕ) (ts : List Transfer
     → r.steps ≤ r.n + count_by (is_in_steps c r.steps) ts + idle_steps r.end
 steps_bound setup r c ts h =
     let within : length (in_steps r.steps (own_transfers c ts)) ≡ count_by (is_in_steps c r.steps) ts =
-        ap length (filter_filter (λ (t : Transfer). nat_lt t.step r.steps) (λ (t : Transfer). t.master == c) ts) ∙ length-filter (is_in_steps c r.steps) ts in
+    ap length (filter_filter (λ (t : Transfer). nat_lt t.step r.steps) (λ (t : Transfer). t.master == c) ts) ∙ length-filter (is_in_steps c r.steps) ts in
     omega (arith, h.retired, within, stop_is_idle r.end r.steps (in_steps r.steps (own_transfers c ts)))

@@ -1,6 +1,6 @@
 -- A stop at a transfer and a stop by a register cell exclude each other, and earlier transfers are no stops.
-use Rattle.std.proofs.Common.{◌≡◌, ◌∙◌, ◌+◌, ◌<◌, ◌==◌, ◌&&◌, ◌||◌, ◌++◌, ℕ, Bool, true, false, List, [], ◌∷◌, filter, refl, ap, sym, subst, arith, inl, inr}
-use Rattle.std.proofs.lemmas.Bool.{cases_Bool, eqb-true, eq-eqb, ne_eqb, and_parts, and_left, and_right}
+use Rattle.std.proofs.Common.{◌≡◌, ◌∙◌, ◌<◌, ◌==◌, ◌++◌, ℕ, true, false, List, [], ◌∷◌, refl, ap, sym, arith, inl, inr}
+use Rattle.std.proofs.lemmas.Bool.{cases_Bool, eqb-true, eq-eqb, ne_eqb, and_left, and_right}
 use Rattle.std.proofs.lemmas.List.Elements.{filter-append}
 use Rattle.std.specs.List.{AllByRecursion as Each}
 use Rattle.core_laws.proofs.ListLemmas.{each_passes, each_filter}
@@ -45,8 +45,8 @@ no_stop_at_register core end (t ∷ ts) e = ((λ own. register_at_no_turn end t.
 pub own_no_stop : (core : ℕ) (end : CoreEnd) (ts : List Transfer) → Each (IsNoStop core end) ts → Each (λ (t : Transfer). is_stop_at t.turn end ≡ false) (own_transfers core ts)
 own_no_stop core end ts goes_on =
     each_both (λ (t : Transfer). (t.master == core) ≡ true) (IsNoStop core end) (λ (t : Transfer). is_stop_at t.turn end ≡ false) (own_transfers core ts)
-        (λ t own f. f (eq-eqb core t.master (sym (eqb-true t.master core own))))
-        (each_passes (λ (t : Transfer). t.master == core) ts) (each_filter (IsNoStop core end) (λ (t : Transfer). t.master == core) ts goes_on)
+    (λ t own f. f (eq-eqb core t.master (sym (eqb-true t.master core own))))
+    (each_passes (λ (t : Transfer). t.master == core) ts) (each_filter (IsNoStop core end) (λ (t : Transfer). t.master == core) ts goes_on)
 
 pub own_more : (core : ℕ) (ts : List Transfer) (t : Transfer) → (core == t.master) ≡ true → own_transfers core (ts ++ t ∷ []) ≡ own_transfers core ts ++ t ∷ []
 own_more core ts t own =

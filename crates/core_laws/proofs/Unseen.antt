@@ -49,7 +49,7 @@ module _ (g : Ground) where
   unfolding own_turn
   turn_sees ts t k h =
       let all : length (all_stored (ts ++ t ∷ [])) ≡ k.seen + length k.unseen + from_bool (enters_log t) =
-          ap length (stored_more ts t) ∙ (length-append (all_stored ts) (stored_at t) ∙ omega (arith, h.counted, stored_count t (enters_log t) refl)) in
+      ap length (stored_more ts t) ∙ (length-append (all_stored ts) (stored_at t) ∙ omega (arith, h.counted, stored_count t (enters_log t) refl)) in
       record { counted = omega (arith, all); unseen = sym (drop_all (k.seen + length k.unseen + from_bool (enters_log t)) (all_stored (ts ++ t ∷ [])) (omega (arith, all))) }
 
   others_add : (ts : List Transfer) (t : Transfer) (k : Progress) → SnoopsLater ts k → SnoopsLater (ts ++ t ∷ []) (others_turn t k)
