@@ -1,0 +1,12 @@
+pub mod Placing
+pub mod Lists
+pub mod Woven
+pub mod Numbers
+pub mod Cores
+pub mod Members
+pub mod ReadsOfOrder
+pub mod Sequence
+pub mod Together
+pub mod Counts
+pub mod ProgramOrder
+pub mod Execution

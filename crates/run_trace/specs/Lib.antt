@@ -1,0 +1,4 @@
+pub mod Order
+pub mod Cursors
+pub mod Fates
+pub mod Gathered
