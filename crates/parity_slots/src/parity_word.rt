@@ -140,12 +140,7 @@ pub(crate) fn note_word(ledger: &mut FlipLedger, first: usize, word: ParityWord,
 }
 
 /// The same of several words.
-pub(crate) fn note_words(
-    ledger: &mut FlipLedger,
-    first: usize,
-    words: &[ParityWord],
-    event: Event,
-)
+pub(crate) fn note_words(ledger: &mut FlipLedger, first: usize, words: &[ParityWord], event: Event)
     requires units { first + 4 * length words.now ≤ length ledger.old.standing }
     requires fits { first + 4 * length words.now < 2 ^ 64 }
     ensures keeps { Keeps ledger.old ledger.new }
