@@ -1,12 +1,12 @@
 -- Tags in which no flip stands stay so, whatever is done to a cache but a flip.
-use Rattle.std.proofs.Common.{◌≡◌, ℕ, ◌+◌, ◌*◌, ◌/◌, ◌%◌, ◌<◌, Bool, true, false, cond, length, sym, ap, ◌∙◌, subst, inl, inr, arith}
+use Rattle.std.proofs.Common.{◌≡◌, ℕ, ◌+◌, ◌*◌, ◌/◌, ◌%◌, ◌<◌, Bool, true, false, cond, length, sym, ap, ◌∙◌, subst, inl, inr}
 use Rattle.std.specs.Prelude.{not}
 use Rattle.std.proofs.lemmas.Bool.{cases_eq}
 use Rattle.std.proofs.lemmas.List.{get_or-set_same, get_or-set_other}
 use Rattle.lf_model.specs.Caches.Cache.{Cache, slot_at, with_slot, used, raised}
 use Rattle.lf_model.specs.Caches.Look.{Looked, check_way, look_in}
 use Rattle.lf_model.specs.Caches.Look.LookUp.{Hit as Hits, Miss as Misses}
-use Rattle.lf_model.specs.Caches.Slot.{Slot, empty_slot, dropped, dropped_by_byte, befalls_each, checked_byte, wanted_bytes, has_struck_tag, has_wanted_words, has_struck_byte}
+use Rattle.lf_model.specs.Caches.Slot.{Slot, empty_slot, dropped, dropped_by_byte, has_struck_tag, has_wanted_words, has_struck_byte}
 use Rattle.lf_model.specs.declared.bus.Why.TheVariants as whys
 use Rattle.lf_model.specs.declared.config.Shape.{Shape}
 use Rattle.parity_cache.specs.CacheState.{CacheState, IsCleanSet}

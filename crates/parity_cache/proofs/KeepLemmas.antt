@@ -1,5 +1,5 @@
 -- What calls keep of a cache, one after the other.
-use Rattle.std.proofs.Common.{◌≡◌, ℕ, ◌+◌, ◌≤◌, length, refl, ◌∙◌, arith}
+use Rattle.std.proofs.Common.{ℕ, ◌+◌, ◌≤◌, refl, ◌∙◌, arith}
 use Rattle.parity_cache.specs.CacheState.{CacheState}
 use Rattle.parity_cache.specs.Keeps.{Keeps}
 

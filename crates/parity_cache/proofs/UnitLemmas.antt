@@ -1,11 +1,10 @@
 -- The units of a cache and their numbers in its array: unit u of slot i has number 36 * i + u.
-use Rattle.std.proofs.Common.{◌≡◌, ℕ, ◌+◌, ◌*◌, ◌-◌, ◌/◌, ◌%◌, ◌<◌, ◌≤◌, Bool, true, false, cond, List, length, refl, sym, ap, ap₂, ◌∙◌, subst, inl, inr, mul_comm, arith}
+use Rattle.std.proofs.Common.{◌≡◌, ℕ, ◌+◌, ◌*◌, ◌-◌, ◌/◌, ◌%◌, ◌<◌, ◌≤◌, Bool, true, false, cond, length, ap, ◌∙◌, subst, inl, inr, mul_comm, arith}
 use Rattle.std.proofs.lemmas.Bool.{cases_lt}
 use Rattle.std.proofs.lemmas.Nat.{div_below, mod_below, mul-add-lt, div-add-mod'}
 use Rattle.flip_ledger.specs.Follows.{has_struck}
 use Rattle.lf_model.specs.Caches.Cache.{Cache, slot_at}
-use Rattle.lf_model.specs.Caches.Slot.{Slot, empty_slot, history_at}
-use Rattle.lf_model.specs.Flips.{Moment}
+use Rattle.lf_model.specs.Caches.Slot.{Slot, history_at}
 use Rattle.parity_cache.specs.CacheUnits.{IsUnit, slot_of_unit, history_of_unit, IsToCome}
 use Rattle.parity_cache.specs.declared.unit.Unit.{Unit}
 use Rattle.parity_slots.proofs.UnitLemmas.{histories_at, unit_tag, unit_line, unit_past}

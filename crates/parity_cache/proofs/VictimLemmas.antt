@@ -1,10 +1,10 @@
 -- The slot that a fill takes is one of its set.
-use Rattle.std.proofs.Common.{◌≡◌, ◌≢◌, ℕ, zero, suc, ◌+◌, ◌-◌, ◌*◌, ◌/◌, ◌%◌, ◌<◌, ◌≤◌, Bool, true, false, cond, nat_lt, not, Option, Some, None, refl, sym, ap, ◌∙◌, subst, arith}
+use Rattle.std.proofs.Common.{◌≡◌, ◌≢◌, ℕ, zero, suc, ◌+◌, ◌-◌, ◌*◌, ◌/◌, ◌%◌, ◌<◌, ◌≤◌, Bool, true, false, cond, nat_lt, not, Option, Some, None, refl, sym, ap, ◌∙◌, arith}
 use Rattle.std.specs.Prelude.{find, fold, unwrap_or, ⊤}
 use Rattle.std.specs.List.{range_with_len}
 use Rattle.std.specs.Option.{option_or}
 use Rattle.std.proofs.lemmas.Nat.{mod-mul-add}
-use Rattle.lf_model.specs.Caches.Cache.{Cache, slot_at, set_of, matching, way_of}
+use Rattle.lf_model.specs.Caches.Cache.{Cache, slot_at, way_of}
 use Rattle.lf_model.specs.Caches.Change.{older, victim}
 use Rattle.lf_model.specs.Caches.Slot.{is_present, holds}
 

@@ -18,7 +18,7 @@ use Rattle.std.proofs.lemmas.Nat.{mod_low}
 use Rattle.std.proofs.lemmas.Nat.Bits.{bit_at_cat_low}
 use Rattle.parity_slots.specs.Units.{with_units, unit_of}
 use Rattle.parity_slots.proofs.UnitLemmas.{unit_tag, unit_line, with_tag, with_line, over_tag, over_line, over_whole_line}
-use Rattle.parity_units.specs.Events.{no_byte, byte_at, befallen, over, AreUnits}
+use Rattle.parity_units.specs.Events.{byte_at, befallen, over}
 use Rattle.parity_units.specs.Bytes.{is_bad}
 use Rattle.parity_units.proofs.ByteLemmas.{byte_reads, bad_struck}
 use Rattle.parity_units.specs.declared.byte.ParityByte.{ParityByte}

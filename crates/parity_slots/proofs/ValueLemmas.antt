@@ -1,5 +1,5 @@
 -- What an access reads, by the words of its line.
-use Rattle.std.proofs.Common.{◌≡◌, ◌⊎◌, ℕ, zero, suc, ◌+◌, ◌*◌, ◌-◌, ◌/◌, ◌%◌, ◌^◌, ◌<◌, ◌≤◌, false, List, length, take, drop, slice_index, sym, ap, ap₂, ◌∙◌, subst, inl, inr, arith, lit<}
+use Rattle.std.proofs.Common.{◌≡◌, ℕ, zero, suc, ◌+◌, ◌*◌, ◌-◌, ◌/◌, ◌%◌, ◌^◌, ◌<◌, ◌≤◌, false, List, length, take, drop, slice_index, sym, ap, ap₂, ◌∙◌, subst, inl, inr, arith}
 use Rattle.lf_model.specs.Caches.Slot.{history_at, has_struck_byte}
 use Rattle.lf_model.specs.Flips.{is_struck_byte}
 use Rattle.lf_model.specs.Operation.{byte_of}

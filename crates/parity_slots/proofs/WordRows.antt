@@ -1,5 +1,5 @@
 -- The bytes of a row of words, as one of them or all of them change.
-use Rattle.std.proofs.Common.{◌≡◌, ◌≢◌, ℕ, ◌+◌, ◌*◌, ◌/◌, ◌%◌, ◌^◌, ◌<◌, ◌≤◌, List, [], ◌∷◌, length, map, slice_index, slice_set, refl, sym, ap, ap₂, ◌∙◌, subst, inl, inr, arith, lit<}
+use Rattle.std.proofs.Common.{◌≡◌, ◌≢◌, ℕ, ◌+◌, ◌*◌, ◌/◌, ◌%◌, ◌^◌, ◌<◌, ◌≤◌, List, [], ◌∷◌, length, map, slice_index, slice_set, refl, sym, ap, ◌∙◌, inl, inr, arith, lit<}
 use Rattle.std.specs.List.{range_with_len}
 use Rattle.std.proofs.lemmas.Bool.{cases_eq}
 use Rattle.std.proofs.lemmas.List.{ext_get_or, length-map, length-set, get_or-set_same, get_or-set_other}
@@ -13,7 +13,7 @@ use Rattle.parity_slots.specs.ParityWords.{byte_in, no_word, word_at, byte_among
 use Rattle.parity_slots.specs.SlotState.{bytes_of}
 use Rattle.parity_slots.specs.declared.parity_word.ParityWord.{ParityWord}
 use Rattle.parity_slots.proofs.FillLemmas.{fresh_in}
-use Rattle.parity_slots.proofs.WordLemmas.{byte_of_words, byte_of_word}
+use Rattle.parity_slots.proofs.WordLemmas.{byte_of_words}
 
 pub bytes_length : (count : ℕ) (words : List ParityWord) → length (bytes_in count words) ≡ count
 bytes_length count words = length-map (range_with_len 0 count) (byte_among words) ∙ length-range_with_len 0 count

@@ -1,6 +1,5 @@
-use Rattle.std.proofs.Common.{◌≡◌, ℕ, zero, suc, ◌+◌, ◌<◌, ◌≤◌, List, [], ◌∷◌, false, sym, ap, ◌∙◌, subst, arith}
+use Rattle.std.proofs.Common.{◌≡◌, ℕ, zero, suc, List, [], ◌∷◌, false, sym, ap, ◌∙◌, arith}
 use Rattle.lf_model.specs.Flips.{Moment, is_struck_byte}
-use Rattle.parity_slots.specs.ParityWords.{byte_in}
 use Rattle.parity_units.specs.Events.{AreUnits}
 use Rattle.parity_units.specs.declared.byte.ParityByte.{ParityByte}
 use Rattle.parity_slots.proofs.WordLemmas.{unmarked, follows_unmarked}

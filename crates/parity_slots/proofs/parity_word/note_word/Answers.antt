@@ -1,6 +1,4 @@
-use Rattle.std.proofs.Common.{◌≡◌, ℕ, ◌+◌, ◌<◌, [], ◌∷◌, false, sym, ap, ◌∙◌, arith}
-use Rattle.lf_model.specs.Flips.{is_struck_byte}
-use Rattle.parity_slots.specs.ParityWords.{byte_in, byte_among}
+use Rattle.std.proofs.Common.{[], ◌∷◌, false, sym, ap, ◌∙◌, arith}
 use Rattle.parity_units.specs.declared.byte.ParityByte.{ParityByte}
 use Rattle.parity_slots.proofs.WordLemmas.{byte_of_words, byte_of_word, unmarked, follows_unmarked}
 use Rattle.parity_slots.proofs.parity_word.note_word.Goals as goal

@@ -1,4 +1,4 @@
-use Rattle.std.proofs.Common.{◌≡◌, ℕ, ◌+◌, ◌*◌, ◌<◌, List, length, sym, ap, ◌∙◌, subst, arith}
+use Rattle.std.proofs.Common.{◌≡◌, ℕ, ◌+◌, ◌*◌, List, sym, subst, arith}
 use Rattle.flip_ledger.specs.Follows.{Follows}
 use Rattle.lf_model.specs.Flips.{Moment, byte_budget}
 use Rattle.parity_units.specs.Events.{befallen, over}

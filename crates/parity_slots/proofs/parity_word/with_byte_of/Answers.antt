@@ -1,4 +1,4 @@
-use Rattle.std.proofs.Common.{◌≡◌, ◌≢◌, ℕ, ◌<◌, ◌∙◌, arith}
+use Rattle.std.proofs.Common.{arith}
 use Rattle.parity_slots.proofs.WordLemmas.{kept_0, kept_1, kept_2, kept_3}
 use Rattle.parity_slots.proofs.parity_word.with_byte_of.Goals as goal
 

@@ -6,7 +6,7 @@ use Rattle.lf_model.specs.Caches.Slot.{has_struck_tag}
 use Rattle.parity_cache.specs.CacheState.{CacheState, with_cache}
 use Rattle.parity_cache.specs.Keeps.{Keeps, StaysClean}
 use Rattle.parity_cache.proofs.CleanLemmas.{way_stays}
-use Rattle.parity_cache.proofs.KeepLemmas.{keeps_same, keeps_then}
+use Rattle.parity_cache.proofs.KeepLemmas.{keeps_then}
 use Rattle.parity_cache.proofs.SetLemmas.{checked_from, checked_next, checked_step, way_clean, way_others, way_uses}
 use Rattle.parity_cache.proofs.cache.ParityCache.check_ways.Goals as goal
 use Rattle.parity_cache.proofs.cache.ParityCache.check_ways.Goals.{then-check_way, else-check_way}

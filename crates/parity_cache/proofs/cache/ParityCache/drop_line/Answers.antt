@@ -1,4 +1,4 @@
-use Rattle.std.proofs.Common.{◌≡◌, ℕ, false, Some, None, sym, ap, ◌∙◌, arith}
+use Rattle.std.proofs.Common.{Some, None, sym, ap, ◌∙◌, arith}
 use Rattle.lf_model.specs.Caches.Cache.{Cache, slot_at, with_slot, matching}
 use Rattle.lf_model.specs.Caches.Slot.{dropped, has_struck_tag}
 use Rattle.parity_cache.specs.CacheState.{CacheState, with_cache}

@@ -1,9 +1,9 @@
-use Rattle.std.proofs.Common.{◌≡◌, ℕ, ◌+◌, ◌*◌, ◌<◌, List, true, sym, ap, ◌∙◌, subst}
+use Rattle.std.proofs.Common.{ℕ, ◌+◌, ◌*◌, ap, ◌∙◌}
 use Rattle.flip_ledger.specs.Follows.{has_struck}
 use Rattle.lf_model.specs.Fates.{fate_of}
-use Rattle.lf_model.specs.Flips.{Moment, byte_budget}
+use Rattle.lf_model.specs.Flips.{byte_budget}
 use Rattle.parity_cache.specs.Kept.{seen}
-use Rattle.parity_cache.specs.CacheUnits.{slot_of_unit, history_of_unit}
+use Rattle.parity_cache.specs.CacheUnits.{slot_of_unit}
 use Rattle.parity_cache.proofs.UnitLemmas.{to_come_in, history_is, number_within, slot_within, unit_in_slot}
 use Rattle.parity_slots.specs.Units.{slot_units}
 use Rattle.parity_cache.proofs.cache.ParityCache.fate.Goals as goal

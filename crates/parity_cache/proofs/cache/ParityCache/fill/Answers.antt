@@ -1,4 +1,4 @@
-use Rattle.std.proofs.Common.{◌≡◌, ℕ, ◌+◌, sym, ap, ap₂, ◌∙◌, arith}
+use Rattle.std.proofs.Common.{◌≡◌, ℕ, ◌+◌, ap, ap₂, ◌∙◌, arith}
 use Rattle.lf_model.specs.Caches.Change.{victim}
 use Rattle.parity_cache.specs.CacheState.{filled_in}
 use Rattle.parity_cache.proofs.SetLemmas.{filled_is}

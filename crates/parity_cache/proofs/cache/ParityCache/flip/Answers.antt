@@ -1,4 +1,3 @@
-use Rattle.std.proofs.Common.{◌≡◌}
 use Rattle.parity_cache.proofs.UnitLemmas.{to_come_in}
 use Rattle.parity_cache.proofs.cache.ParityCache.flip.Goals as goal
 

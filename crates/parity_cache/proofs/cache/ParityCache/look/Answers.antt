@@ -1,4 +1,4 @@
-use Rattle.std.proofs.Common.{◌≡◌, ℕ, Bool, false, Some, None, sym, ap, ◌∙◌, cond, arith}
+use Rattle.std.proofs.Common.{Bool, Some, None, sym, ap, ◌∙◌, cond, arith}
 use Rattle.lf_model.specs.Caches.Cache.{slot_at, matching}
 use Rattle.lf_model.specs.Caches.Slot.{has_struck_tag}
 use Rattle.lf_model.specs.Caches.Look.{Looked, look_in, checked}

@@ -1,4 +1,4 @@
-use Rattle.std.proofs.Common.{ℕ, zero, suc, ◌<◌, ◌^◌, [], ◌∷◌, refl, lit<, arith}
+use Rattle.std.proofs.Common.{ℕ, zero, suc, ◌<◌, ◌^◌, [], ◌∷◌, refl, lit<}
 use Rattle.std.specs.Prelude.{slice_index}
 use Rattle.parity_units.specs.declared.events.Event.TheVariants.{Write}
 use Rattle.parity_slots.specs.ParityWords.{bytes_in}

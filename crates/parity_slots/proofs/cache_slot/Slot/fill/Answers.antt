@@ -1,8 +1,8 @@
-use Rattle.std.proofs.Common.{◌≡◌, ◌^◌, ◌<◌, List, [], ◌∷◌, length, map, refl, sym, arith}
+use Rattle.std.proofs.Common.{◌≡◌, [], ◌∷◌, map, refl, arith}
 use Rattle.lf_model.specs.Caches.Slot.{tag_of, written}
 use Rattle.parity_slots.specs.ParityWords.{bytes_in}
 use Rattle.parity_slots.specs.SlotState.{SlotState, bytes_of}
-use Rattle.parity_slots.specs.Inside.{AreBytes, IsSlotOf}
+use Rattle.parity_slots.specs.Inside.{IsSlotOf}
 use Rattle.parity_slots.specs.Units.{with_units}
 use Rattle.parity_slots.proofs.ByteRows.{row_written}
 use Rattle.parity_slots.proofs.SlotLemmas.{tag_units, line_units, follows_tag, follows_line}

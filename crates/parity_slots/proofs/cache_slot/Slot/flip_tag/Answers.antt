@@ -1,13 +1,13 @@
-use Rattle.std.proofs.Common.{◌≡◌, ℕ, ◌/◌, ◌%◌, ◌^◌, ◌<◌, [], ◌∷◌, slice_set, length-set, sym, ap, ◌∙◌, arith}
+use Rattle.std.proofs.Common.{◌≡◌, ◌^◌, ◌<◌, [], ◌∷◌, slice_set, sym, ap, ◌∙◌}
 use Rattle.parity_units.specs.Bytes.{flipped_byte, answer_of}
 use Rattle.parity_units.specs.Events.{byte_at}
 use Rattle.parity_units.specs.declared.byte.ParityByte.{ParityByte}
-use Rattle.parity_slots.specs.ParityWords.{byte_in, word_at, bytes_in}
+use Rattle.parity_slots.specs.ParityWords.{byte_in, bytes_in}
 use Rattle.parity_slots.proofs.ByteRows.{row_byte_struck}
-use Rattle.parity_slots.proofs.SlotLemmas.{tag_mark, line_mark}
-use Rattle.parity_slots.proofs.UnitLemmas.{gains_tag, gains_line}
+use Rattle.parity_slots.proofs.SlotLemmas.{tag_mark}
+use Rattle.parity_slots.proofs.UnitLemmas.{gains_tag}
 use Rattle.parity_slots.proofs.WordLemmas.{byte_fits, flipped_fits, byte_of_words, byte_of_word}
-use Rattle.parity_slots.proofs.WordRows.{set_one, set_among}
+use Rattle.parity_slots.proofs.WordRows.{set_one}
 use Rattle.parity_slots.proofs.cache_slot.Slot.flip_tag.Goals as goal
 
 pub invariant_of-self : goal.invariant_of-self

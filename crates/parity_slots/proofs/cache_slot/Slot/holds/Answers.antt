@@ -1,6 +1,5 @@
-use Rattle.std.proofs.Common.{◌≡◌, ◌==◌, ◌&&◌, ℕ, ◌/◌, ◌%◌, ◌^◌, Bool, false, slice_index, sym, ap, ◌∙◌, arith}
+use Rattle.std.proofs.Common.{◌≡◌, ◌==◌, ◌&&◌, ◌/◌, ◌%◌, ◌^◌, Bool, false, slice_index, sym, ap, ◌∙◌, arith}
 use Rattle.lf_model.specs.Caches.Slot.{has_struck_tag}
-use Rattle.parity_slots.specs.SlotState.{SlotState}
 use Rattle.parity_slots.proofs.SlotLemmas.{line_is}
 use Rattle.parity_slots.proofs.cache_slot.Slot.holds.Goals as goal
 

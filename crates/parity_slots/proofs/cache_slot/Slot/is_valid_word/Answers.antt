@@ -1,4 +1,4 @@
-use Rattle.std.proofs.Common.{◌≡◌, ◌==◌, ℕ, Bool, false, ap, ◌∙◌}
+use Rattle.std.proofs.Common.{◌≡◌, ◌==◌, ℕ, false, ap}
 use Rattle.lf_model.specs.Caches.Slot.{has_struck_tag}
 use Rattle.parity_slots.proofs.SlotLemmas.{valid_bit}
 use Rattle.parity_slots.proofs.cache_slot.Slot.is_valid_word.Goals as goal

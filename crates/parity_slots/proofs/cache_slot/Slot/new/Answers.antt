@@ -1,4 +1,4 @@
-use Rattle.std.proofs.Common.{◌≡◌, ℕ, refl, sym, ap, ◌∙◌, lit<}
+use Rattle.std.proofs.Common.{ℕ, refl, sym, ap, ◌∙◌, lit<}
 use Rattle.std.specs.Prelude.{replicate}
 use Rattle.std.proofs.lemmas.List.{get_or-replicate}
 use Rattle.lf_model.specs.Operation.{byte_of}

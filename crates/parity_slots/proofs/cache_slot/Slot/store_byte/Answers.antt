@@ -1,10 +1,9 @@
-use Rattle.std.proofs.Common.{◌≡◌, ℕ, ◌+◌, ◌/◌, ◌%◌, ◌≤◌, ap, slice_set, length-set, ◌∙◌, arith}
+use Rattle.std.proofs.Common.{◌≡◌, ◌+◌, ◌/◌, ◌≤◌, slice_set, length-set, ◌∙◌, arith}
 use Rattle.parity_code.proofs.ParityLemmas.{code-lt}
 use Rattle.parity_units.specs.Bytes.{fresh_byte}
 use Rattle.parity_units.specs.declared.events.Event.TheVariants.{Write}
-use Rattle.parity_slots.specs.ParityWords.{byte_in, bytes_in}
+use Rattle.parity_slots.specs.ParityWords.{bytes_in}
 use Rattle.parity_slots.specs.Units.{with_units}
-use Rattle.parity_slots.specs.declared.parity_word.ParityWord.{ParityWord}
 use Rattle.parity_slots.proofs.ByteRows.{row_byte_written}
 use Rattle.parity_slots.proofs.SlotLemmas.{line_unit, follows_run}
 use Rattle.parity_slots.proofs.WordRows.{set_among}

@@ -1,7 +1,5 @@
-use Rattle.std.proofs.Common.{◌≡◌, ◌^◌, ◌<◌, false, sym, ap, ◌∙◌, arith}
+use Rattle.std.proofs.Common.{◌≡◌, false, arith}
 use Rattle.lf_model.specs.Caches.Slot.{has_struck_byte}
-use Rattle.parity_slots.specs.ParityWords.{word_at}
-use Rattle.parity_slots.specs.declared.parity_word.ParityWord.{ParityWord}
 use Rattle.parity_slots.proofs.ValueLemmas.{reads_1, reads_2, reads_4, reads_8, is_one}
 use Rattle.parity_slots.proofs.cache_slot.Slot.value.Goals as goal
 

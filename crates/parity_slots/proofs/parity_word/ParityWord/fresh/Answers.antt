@@ -1,4 +1,4 @@
-use Rattle.std.proofs.Common.{◌≡◌, ℕ, ◌%◌, List, slice_index, ap, ◌∙◌, arith}
+use Rattle.std.proofs.Common.{ℕ, List, slice_index, ap, ◌∙◌, arith}
 use Rattle.parity_code.specs.Parity.{parity}
 use Rattle.parity_slots.proofs.WordLemmas.{fresh_bytes}
 use Rattle.parity_slots.proofs.parity_word.ParityWord.fresh.Goals as goal
