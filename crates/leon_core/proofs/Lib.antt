@@ -1,0 +1,5 @@
+pub mod Touching
+pub mod LocalSeat
+pub mod TurnSeat
+pub mod StopSeat
+pub mod Starts

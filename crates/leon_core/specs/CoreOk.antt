@@ -1,0 +1,73 @@
+-- What holds of a core that has seen these entries of the log and these transfers on the bus, as its last turn ended.
+use Rattle.std.specs.Prelude.{ℕ, ◌≡◌, ◌-◌, ◌<◌, ◌++◌, List, length, map, drop, filter}
+use Rattle.core_laws.specs.RunSoFar.{HasRun}
+use Rattle.core_laws.specs.SeenSoFar.{HasSeenSoFar}
+use Rattle.core_laws.specs.StepsSoFar.{HasStepsSoFar}
+use Rattle.leon_core.specs.CoreValue.{CoreValue}
+use Rattle.leon_core.specs.Lines.{LinesAre}
+use Rattle.leon_core.specs.Phases.{ground_so_far}
+use Rattle.leon_core.specs.PortState.{Waiting}
+use Rattle.leon_core.specs.Result.{result_of}
+use Rattle.leon_core.specs.Seat.{seat, IsSeat}
+use Rattle.leon_core.specs.declared.phase.Phase.{Phase}
+use Rattle.leon_core.specs.declared.phase.Phase.TheVariants.{Between, Begun, Needs, Ended}
+use Rattle.lf_model.specs.Ledger.Steps.{own_transfers, in_steps, past_steps, HasSteps}
+use Rattle.lf_model.specs.Operation.{stores, made}
+use Rattle.lf_model.specs.Records.OwnTurns.{OwnTurnAt, words_named}
+use Rattle.lf_model.specs.Records.SeenOrder.{HasSeen}
+use Rattle.lf_model.specs.Start.{initial_byte}
+use Rattle.lf_model.specs.declared.bus.Entry.{Entry}
+use Rattle.lf_model.specs.declared.bus.Transfer.{Transfer}
+use Rattle.lf_model.specs.declared.trace.CoreEnd.{CoreEnd}
+
+-- the last n of a list
+abbrev pub last_of : ℕ → List Entry → List Entry
+last_of n entries = drop (length entries - n) entries
+
+-- the stores that wait, as they will enter the log: the last of those that it made
+abbrev pub buffer_of : CoreValue → List Entry
+buffer_of v = last_of (length v.ports.waiting) (map made (filter stores v.ops))
+
+abbrev pub waiting_of : Entry → Waiting
+waiting_of e = record { addr = e.addr; len = e.len; value = e.put }
+
+-- ---- a core that goes on
+
+abbrev pub within_steps : CoreValue → List Transfer → List Transfer
+within_steps v transfers = in_steps v.steps (own_transfers v.arch.core transfers)
+
+abbrev pub past_its_steps : CoreValue → List Transfer → List Transfer
+past_its_steps v transfers = past_steps v.steps (own_transfers v.arch.core transfers)
+
+-- its steps and transfers, the stores that wait, what it has seen of memory order, and the lines of its caches
+pub record GoesOn (v : CoreValue) (log : List Entry) (transfers : List Transfer) : Type 0 where
+  pub in_order : own_transfers v.arch.core transfers ≡ within_steps v transfers ++ past_its_steps v transfers
+  pub has_steps : HasStepsSoFar v.setup.config.steps v.steps v.arch.n (length v.ports.waiting) (within_steps v transfers) (past_its_steps v transfers)
+  pub waits : v.ports.waiting ≡ map waiting_of (buffer_of v)
+  pub has_seen : HasSeenSoFar (initial_byte v.setup.image) v.arch.core v.ops v.seen_by log (buffer_of v)
+  pub lines : LinesAre v log (buffer_of v)
+
+-- ---- a core that has ended
+
+pub record HasEnded (v : CoreValue) (end : CoreEnd) (log : List Entry) (transfers : List Transfer) : Type 0 where
+  pub has_steps : HasSteps v.setup (result_of v end) (own_transfers v.arch.core transfers)
+  pub has_seen : HasSeen (initial_byte v.setup.image) v.arch.core v.ops v.seen_by log
+  pub named : v.named ≡ words_named (ground_so_far v) transfers
+
+abbrev pub StandsBy : CoreValue → List Entry → List Transfer → Phase → Type 0
+StandsBy v log transfers Between = GoesOn v log transfers
+StandsBy v log transfers Begun = GoesOn v log transfers
+StandsBy v log transfers (Needs turn) = GoesOn v log transfers
+StandsBy v log transfers (Ended end) = HasEnded v end log transfers
+
+-- ---- the whole
+
+-- the lists are as long as the core remembers; its parts are its seat of the course; its run is that of the image's code; each of
+-- its transfers is the one that its step needed
+pub record CoreOk (v : CoreValue) (log : List Entry) (transfers : List Transfer) : Type 0 where
+  pub log_length : length log ≡ v.log_seen
+  pub turns : length transfers ≡ v.turns_seen
+  pub is_seat : IsSeat v (ground_so_far v) (seat (ground_so_far v) transfers v.steps)
+  pub has_run : HasRun (ground_so_far v) (seat (ground_so_far v) transfers v.steps)
+  pub right_turns : (turn : ℕ) → turn < length transfers → OwnTurnAt (ground_so_far v) transfers turn
+  pub stands : StandsBy v log transfers v.phase
