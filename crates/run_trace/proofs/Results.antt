@@ -98,8 +98,8 @@ module _ (setup : Setup) (records : List CoreRecord) (log : List Entry) (transfe
     result_of c (Some kept) e r =
         let ops : program_order c trace.order ≡ kept.ops = ap (program_order c) order_is ∙ order_of_core setup records log transfers status fates watch ok c kept e in
         let shows = some_weaker (λ (q : Run). ShowsState setup (record { core = c; result = kept.result; ops = kept.ops; transfers = transfers }) q.state)
-            (λ (q : Run). ShowsState setup (record { core = c; result = kept.result; ops = kept.ops; transfers = map without_length transfers }) q.state)
-            (run setup c (answers_of kept.ops) kept.result.n) (λ q h. shows_without setup c kept.result kept.ops transfers q.state h) r.result in
+        (λ (q : Run). ShowsState setup (record { core = c; result = kept.result; ops = kept.ops; transfers = map without_length transfers }) q.state)
+        (run setup c (answers_of kept.ops) kept.result.n) (λ q h. shows_without setup c kept.result kept.ops transfers q.state h) r.result in
         subst (λ (os : List Op). ShowsResult setup (record { core = c; result = kept.result; ops = os; transfers = trace.transfers })) (sym ops)
         (subst (λ (ts : List Transfer). ShowsResult setup (record { core = c; result = kept.result; ops = kept.ops; transfers = ts })) (sym transfers_are) shows)
 
