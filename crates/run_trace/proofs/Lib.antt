@@ -10,3 +10,4 @@ pub mod Together
 pub mod Counts
 pub mod ProgramOrder
 pub mod Execution
+pub mod Results
