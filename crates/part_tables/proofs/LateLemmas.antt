@@ -1,5 +1,5 @@
 -- A flip that has struck no word, or no unit of a cache, so far is late, and no other is.
-use Rattle.std.proofs.Common.{◌≡◌, ◌+◌, ◌*◌, ◌%◌, ◌<◌, ℕ, IsTrue, Bool, true, false, List, length, refl, sym, ap, subst, ◌∙◌, arith}
+use Rattle.std.proofs.Common.{◌≡◌, ◌+◌, ◌*◌, ◌%◌, ◌<◌, ℕ, IsTrue, Bool, true, false, List, length, refl, sym, subst, ◌∙◌, arith}
 use Rattle.std.proofs.lemmas.Bool.Decides.{nat_tests}
 use Rattle.coded_words.specs.Words.{Words, IsToCome}
 use Rattle.flip_ledger.specs.Follows.{has_struck}
@@ -7,13 +7,14 @@ use Rattle.flip_ledger.proofs.FateRule.{fate_struck}
 use Rattle.ft_memory.specs.Memory.{ram_of, history_of}
 use Rattle.lf_model.specs.Caches.Slot.{history_at}
 use Rattle.lf_model.specs.Fates.{fate_of}
-use Rattle.lf_model.specs.Caches.Slot.{Slot}
+use Rattle.lf_model.specs.Caches.Cache.{Cache}
 use Rattle.lf_model.specs.Flips.{Moment, word_budget, byte_budget}
 use Rattle.lf_model.specs.Start.{ram_first, is_in_ram}
 use Rattle.lf_model.specs.declared.trace.Fate.{Fate}
 use Rattle.lf_model.specs.declared.trace.Fate.TheVariants.{Late}
-use Rattle.parity_slots.specs.SlotsState as slots
-use Rattle.parity_slots.specs.Units.{slot_units, histories_of}
+use Rattle.parity_cache.specs.CacheUnits as units
+use Rattle.parity_cache.specs.CacheUnits.{IsUnit, history_of_unit}
+use Rattle.parity_cache.specs.declared.unit.Unit.{Unit}
 use Rattle.ram_words.specs.Ram.{place_of}
 
 not_true : (b : Bool) → (b ≡ true → ⊥) → b ≡ false
@@ -41,9 +42,9 @@ late_to_come-memory number m fate late struck =
     (struck (ram_first + 4 * place) (address_in m place within) (omega arith)) has)
 
 -- the same of the units of a cache
-pub late_to_come-cache : (number : ℕ) (ways : List Slot) (fate : Fate) → fate ≡ Late
-    → ((unit : ℕ) → unit < slot_units * length ways → has_struck number (histories_of ways unit) ≡ true → fate ≡ fate_of byte_budget number (histories_of ways unit))
-    → slots.IsToCome number ways
-late_to_come-cache number ways fate late struck =
-    λ unit within.
-    not_true (has_struck number (histories_of ways unit)) (λ has. fate_struck byte_budget number (histories_of ways unit) has (sym (struck unit within has) ∙ late))
+pub late_to_come-cache : (number : ℕ) (cache : Cache) (fate : Fate) → fate ≡ Late
+    → ((at : Unit) → IsUnit at cache → has_struck number (history_of_unit at cache) ≡ true → fate ≡ fate_of byte_budget number (history_of_unit at cache))
+    → units.IsToCome number cache
+late_to_come-cache number cache fate late struck =
+    λ at is.
+    not_true (has_struck number (history_of_unit at cache)) (λ has. fate_struck byte_budget number (history_of_unit at cache) has (sym (struck at is has) ∙ late))
