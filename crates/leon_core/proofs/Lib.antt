@@ -1,4 +1,3 @@
-pub mod Touching
 pub mod LocalSeat
 pub mod TurnSeat
 pub mod StopSeat

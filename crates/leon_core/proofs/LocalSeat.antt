@@ -1,10 +1,10 @@
 -- A step without a turn, whose instruction retires, carries the core's seat on.
 use Rattle.std.proofs.Common.{◌≡◌, ◌∙◌, ◌+◌, ◌++◌, ℕ, false, refl, ap, sym, arith}
 use Rattle.std.proofs.lemmas.List.{append-nil}
-use Rattle.leon_core.specs.CoreValue.{CoreValue}
-use Rattle.leon_core.specs.Moves.{tried_at, Retires}
-use Rattle.leon_core.specs.Seat.{IsSeat, errors_by}
-use Rattle.leon_core.specs.declared.phase.Phase.TheVariants.{Between, Ended}
+use Rattle.core_parts.specs.CoreValue.{CoreValue}
+use Rattle.core_parts.specs.Moves.{tried_at, Retires}
+use Rattle.core_parts.specs.Seat.{IsSeat, errors_by}
+use Rattle.core_parts.specs.declared.phase.Phase.TheVariants.{Between, Ended}
 use Rattle.lf_model.specs.Course.Core.{Ground}
 use Rattle.lf_model.specs.Course.LocalStep.{local_step, is_last_stop, way_hit}
 use Rattle.lf_model.specs.Course.Outcome.Need.{NoTurn}

@@ -7,10 +7,10 @@ use Rattle.core_laws.specs.RunSoFar.{HasRun}
 use Rattle.core_laws.specs.SeenSoFar.{HasSeenSoFar}
 use Rattle.core_laws.specs.StepsSoFar.{HasStepsSoFar}
 use Rattle.leon_core.specs.CoreOk.{CoreOk, GoesOn}
-use Rattle.leon_core.specs.CoreValue.{start_value}
-use Rattle.leon_core.specs.Lines.{Holds, LinesAre}
-use Rattle.leon_core.specs.Phases.{ground_so_far}
-use Rattle.leon_core.specs.Seat.{seat, IsSeat}
+use Rattle.core_parts.specs.CoreValue.{start_value}
+use Rattle.leon_core.specs.Lines.{LinesAre}
+use Rattle.core_parts.specs.Phases.{ground_so_far}
+use Rattle.core_parts.specs.Seat.{seat, IsSeat}
 use Rattle.lf_model.specs.Caches.Cache.{empty_cache, slot_at}
 use Rattle.lf_model.specs.Caches.Slot.{empty_slot, holds}
 use Rattle.lf_model.specs.Run.{run}
@@ -19,6 +19,7 @@ use Rattle.lf_model.specs.State.{reset}
 use Rattle.lf_model.specs.declared.config.Shape.{Shape}
 use Rattle.lf_model.specs.declared.setup.Setup.{Setup}
 use Rattle.parity_cache.specs.CacheState.{reset_cache}
+use Rattle.parity_cache.specs.Resident.{Holds}
 
 -- ---- no byte is resident in a cache at reset
 

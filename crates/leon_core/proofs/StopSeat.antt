@@ -1,9 +1,9 @@
 -- A stop carries the core's seat to its end: by a bad register cell in a step without a turn, or by a bad word at a turn.
 use Rattle.std.proofs.Common.{◌≡◌, ◌∙◌, ◌+◌, ◌==◌, ℕ, true, false, List, [], ◌∷◌, Some, None, length, refl, ap, sym, arith}
-use Rattle.leon_core.specs.CoreValue.{CoreValue}
-use Rattle.leon_core.specs.Moves.{tried_at, Stops, StopsAtTurn}
-use Rattle.leon_core.specs.Seat.{IsSeat, errors_by}
-use Rattle.leon_core.specs.declared.phase.Phase.TheVariants.{Between, Ended}
+use Rattle.core_parts.specs.CoreValue.{CoreValue}
+use Rattle.core_parts.specs.Moves.{tried_at, Stops, StopsAtTurn}
+use Rattle.core_parts.specs.Seat.{IsSeat, errors_by}
+use Rattle.core_parts.specs.declared.phase.Phase.TheVariants.{Between, Ended}
 use Rattle.lf_model.specs.Course.Core.{Ground, r_register_access_error}
 use Rattle.lf_model.specs.Course.Course.{with_unseen}
 use Rattle.lf_model.specs.Course.LocalStep.{local_step, is_last_stop}

@@ -1,10 +1,10 @@
 -- A core's turn on the bus carries its seat on: a fill, a drain or a snoop, and an atomic that retires.
 use Rattle.std.proofs.Common.{◌≡◌, ◌∙◌, ◌+◌, ◌++◌, ℕ, true, false, List, [], None, length, refl, ap, sym, arith}
 use Rattle.std.proofs.lemmas.List.{append-nil}
-use Rattle.leon_core.specs.CoreValue.{CoreValue}
-use Rattle.leon_core.specs.Moves.{seen_with, Turns, Exchanges}
-use Rattle.leon_core.specs.Seat.{IsSeat}
-use Rattle.leon_core.specs.declared.phase.Phase.TheVariants.{Between}
+use Rattle.core_parts.specs.CoreValue.{CoreValue}
+use Rattle.core_parts.specs.Moves.{seen_with, Turns, Exchanges}
+use Rattle.core_parts.specs.Seat.{IsSeat}
+use Rattle.core_parts.specs.declared.phase.Phase.TheVariants.{Between}
 use Rattle.lf_model.specs.Course.Core.{Ground}
 use Rattle.lf_model.specs.Course.Course.{with_unseen}
 use Rattle.lf_model.specs.Course.Progress.{Progress, completed}

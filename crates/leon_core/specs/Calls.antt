@@ -2,13 +2,13 @@
 use Rattle.std.specs.Prelude.{ℕ, ◌≡◌, ◌<◌, ◌==◌, false, List, length, take, drop}
 use Rattle.std.specs.List.{AllByRecursion}
 use Rattle.leon_core.specs.CoreOk.{CoreOk}
-use Rattle.leon_core.specs.CoreValue.{CoreValue}
-use Rattle.leon_core.specs.Needs.{IsAnswer}
-use Rattle.leon_core.specs.Phases.{ground_so_far, state_of_core}
-use Rattle.leon_core.specs.Seat.{seat}
-use Rattle.leon_core.specs.declared.phase.CoreState.TheVariants.{Draining}
-use Rattle.leon_core.specs.declared.phase.Phase.{Phase}
-use Rattle.leon_core.specs.declared.phase.Phase.TheVariants.{Between, Begun, Needs, Ended}
+use Rattle.core_parts.specs.CoreValue.{CoreValue}
+use Rattle.core_parts.specs.Needs.{IsAnswer}
+use Rattle.core_parts.specs.Phases.{ground_so_far, state_of_core}
+use Rattle.core_parts.specs.Seat.{seat}
+use Rattle.core_parts.specs.declared.phase.CoreState.TheVariants.{Draining}
+use Rattle.core_parts.specs.declared.phase.Phase.{Phase}
+use Rattle.core_parts.specs.declared.phase.Phase.TheVariants.{Between, Begun, Needs, Ended}
 use Rattle.lf_model.specs.Course.Arrays.{begun}
 use Rattle.lf_model.specs.Course.Attempt.{attempt}
 use Rattle.lf_model.specs.Course.Core.{Ground}

@@ -3,14 +3,14 @@ use Rattle.std.specs.Prelude.{ℕ, ◌≡◌, ◌-◌, ◌<◌, ◌++◌, List, 
 use Rattle.core_laws.specs.RunSoFar.{HasRun}
 use Rattle.core_laws.specs.SeenSoFar.{HasSeenSoFar}
 use Rattle.core_laws.specs.StepsSoFar.{HasStepsSoFar}
-use Rattle.leon_core.specs.CoreValue.{CoreValue}
+use Rattle.core_parts.specs.CoreValue.{CoreValue}
 use Rattle.leon_core.specs.Lines.{LinesAre}
-use Rattle.leon_core.specs.Phases.{ground_so_far}
-use Rattle.leon_core.specs.PortState.{Waiting}
+use Rattle.core_parts.specs.Phases.{ground_so_far}
+use Rattle.core_parts.specs.PortState.{Waiting}
 use Rattle.leon_core.specs.Result.{result_of}
-use Rattle.leon_core.specs.Seat.{seat, IsSeat}
-use Rattle.leon_core.specs.declared.phase.Phase.{Phase}
-use Rattle.leon_core.specs.declared.phase.Phase.TheVariants.{Between, Begun, Needs, Ended}
+use Rattle.core_parts.specs.Seat.{seat, IsSeat}
+use Rattle.core_parts.specs.declared.phase.Phase.{Phase}
+use Rattle.core_parts.specs.declared.phase.Phase.TheVariants.{Between, Begun, Needs, Ended}
 use Rattle.lf_model.specs.Ledger.Steps.{own_transfers, in_steps, past_steps, HasSteps}
 use Rattle.lf_model.specs.Operation.{stores, made}
 use Rattle.lf_model.specs.Records.OwnTurns.{OwnTurnAt, words_named}

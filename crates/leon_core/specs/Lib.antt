@@ -1,12 +1,4 @@
-pub mod RecordState
-pub mod RecordInside
-pub mod PortState
-pub mod CoreValue
-pub mod Phases
-pub mod Needs
 pub mod Lines
-pub mod Seat
 pub mod Result
 pub mod CoreOk
-pub mod Moves
 pub mod Calls

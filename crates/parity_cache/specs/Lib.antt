@@ -2,3 +2,4 @@ pub mod CacheState
 pub mod CacheUnits
 pub mod Keeps
 pub mod Kept
+pub mod Resident

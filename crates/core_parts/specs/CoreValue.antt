@@ -1,8 +1,8 @@
 -- A core as its users see it.
 use Rattle.std.specs.Prelude.{ℕ, List, [], length, map, replicate}
-use Rattle.leon_core.specs.PortState.{PortState}
-use Rattle.leon_core.specs.declared.phase.Phase.{Phase}
-use Rattle.leon_core.specs.declared.phase.Phase.TheVariants.{Between}
+use Rattle.core_parts.specs.PortState.{PortState}
+use Rattle.core_parts.specs.declared.phase.Phase.{Phase}
+use Rattle.core_parts.specs.declared.phase.Phase.TheVariants.{Between}
 use Rattle.lf_model.specs.Course.Arrays.{register_cells}
 use Rattle.lf_model.specs.Operation.{made}
 use Rattle.lf_model.specs.Run.{site_of}

@@ -1,12 +1,12 @@
 -- The parts of a core are its seat of the course after the steps that it made and the transfers that it saw.
 use Rattle.std.specs.Prelude.{ℕ, ◌≡◌, ◌+◌, ◌-◌, false, List, [], length, map, filter}
 use Rattle.std.specs.List.{zip}
-use Rattle.leon_core.specs.CoreValue.{CoreValue, seen_of}
-use Rattle.leon_core.specs.Needs.{kind_of, why_of, IsTurnOf}
-use Rattle.leon_core.specs.Phases.{halt_by}
-use Rattle.leon_core.specs.PortState.{arrays_in}
-use Rattle.leon_core.specs.declared.phase.Phase.{Phase}
-use Rattle.leon_core.specs.declared.phase.Phase.TheVariants.{Between, Begun, Needs, Ended}
+use Rattle.core_parts.specs.CoreValue.{CoreValue, seen_of}
+use Rattle.core_parts.specs.Needs.{kind_of, why_of, IsTurnOf}
+use Rattle.core_parts.specs.Phases.{halt_by}
+use Rattle.core_parts.specs.PortState.{arrays_in}
+use Rattle.core_parts.specs.declared.phase.Phase.{Phase}
+use Rattle.core_parts.specs.declared.phase.Phase.TheVariants.{Between, Begun, Needs, Ended}
 use Rattle.lf_model.specs.Course.Arrays.{Arrays, begun}
 use Rattle.lf_model.specs.Course.Core.{Ground, is_store, is_store_stop}
 use Rattle.lf_model.specs.Course.Course.{course}

@@ -1,6 +1,6 @@
 use Rattle.std.proofs.Common.{◌≡◌, ℕ, zero, suc, ◌<◌, List, [], ◌∷◌, ◌++◌, length, map, take, drop, slice_index_or, slice_set, refl, sym, ap, ◌∙◌, add-one, arith, rules}
 use Rattle.core_laws.specs.SeenSoFar.{lost_from}
-use Rattle.leon_core.proofs.record.lose_from.Goals as goal
+use Rattle.core_parts.proofs.record.lose_from.Goals as goal
 use Rattle.lf_model.specs.declared.trace.Op.{Op}
 
 -- one more element is replaced by what it becomes

@@ -1,7 +1,7 @@
 ghost use Rattle.std.specs.Prelude.{◌≡◌, ◌+◌, ◌++◌, ◌^◌, ◌<◌, ◌∷◌, [], length, vec_len, IfOk};
 ghost use Rattle.std.specs.Vec.{vec_capacity};
 ghost use Rattle.core_laws.specs.SeenSoFar.{lost_from, losing};
-ghost use Rattle.leon_core.specs.RecordState.{reset_record, op_by};
+ghost use Rattle.core_parts.specs.RecordState.{reset_record, op_by};
 
 use lf_model::bus::OpKind;
 use lf_model::trace::Op;
@@ -20,11 +20,11 @@ pub struct Record {
 }
 
 impl Model for Record {
-    ghost use Rattle.leon_core.specs.RecordState.{RecordState};
+    ghost use Rattle.core_parts.specs.RecordState.{RecordState};
 
     ghost Value = { RecordState };
 
-    ghost use Rattle.leon_core.specs.RecordInside.{kept, IsRecord};
+    ghost use Rattle.core_parts.specs.RecordInside.{kept, IsRecord};
 
     ghost view = { kept };
 

@@ -2,9 +2,9 @@
 use Rattle.std.specs.Prelude.{ℕ, ◌≡◌, ◌+◌, ◌++◌, List, length, map, filter, slice_index, false, None, if◌then◌else◌}
 use Rattle.std.specs.Int.{from_bool}
 use Rattle.std.specs.List.{zip}
-use Rattle.leon_core.specs.CoreValue.{CoreValue}
-use Rattle.leon_core.specs.PortState.{arrays_in}
-use Rattle.leon_core.specs.Seat.{run_of_core}
+use Rattle.core_parts.specs.CoreValue.{CoreValue}
+use Rattle.core_parts.specs.PortState.{arrays_in}
+use Rattle.core_parts.specs.Seat.{run_of_core}
 use Rattle.lf_model.specs.Course.Attempt.{Attempt, attempt}
 use Rattle.lf_model.specs.Course.Arrays.{begun}
 use Rattle.lf_model.specs.Course.Core.{Ground, is_store, is_store_stop}

@@ -1,11 +1,11 @@
 -- What the phase of a core says: how it ended, what its course goes by so far, and what became of the step that is begun.
 use Rattle.std.specs.Prelude.{ℕ, nat_lt, ◌==◌, Bool, false, length, Option, Some, None, if◌then◌else◌}
 use Rattle.core_laws.specs.Running.{running}
-use Rattle.leon_core.specs.CoreValue.{CoreValue}
-use Rattle.leon_core.specs.declared.phase.CoreState.{CoreState}
-use Rattle.leon_core.specs.declared.phase.CoreState.TheVariants as states
-use Rattle.leon_core.specs.declared.phase.Phase.{Phase}
-use Rattle.leon_core.specs.declared.phase.Phase.TheVariants.{Between, Begun, Needs, Ended}
+use Rattle.core_parts.specs.CoreValue.{CoreValue}
+use Rattle.core_parts.specs.declared.phase.CoreState.{CoreState}
+use Rattle.core_parts.specs.declared.phase.CoreState.TheVariants as states
+use Rattle.core_parts.specs.declared.phase.Phase.{Phase}
+use Rattle.core_parts.specs.declared.phase.Phase.TheVariants.{Between, Begun, Needs, Ended}
 use Rattle.lf_model.specs.Course.Core.{Ground, given_by, ground_of}
 use Rattle.lf_model.specs.declared.trace.CoreEnd.TheVariants.{Halt, Stop, Limit}
 

@@ -1,7 +1,7 @@
 use Rattle.std.proofs.Common.{◌≡◌, ◌++◌, map, take, drop, vec_len}
 use Rattle.std.specs.Vec.{vec_capacity}
 use Rattle.core_laws.specs.SeenSoFar.{lost_from}
-use Rattle.leon_core.proofs.record.lose_from.Given as goal
+use Rattle.core_parts.proofs.record.lose_from.Given as goal
 
 abbrev pub invariant-loop-i : goal.invariant-loop-i
 invariant-loop-i l = record {

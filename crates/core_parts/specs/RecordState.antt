@@ -1,6 +1,6 @@
 -- What a core made, as its users see it.
 use Rattle.std.specs.Prelude.{ℕ, List, [], length}
-use Rattle.leon_core.specs.declared.record.Operation.{Operation}
+use Rattle.core_parts.specs.declared.record.Operation.{Operation}
 use Rattle.lf_model.specs.declared.trace.Op.{Op}
 
 -- steps: those that it made; seen and turns: how many entries the log had, and how many transfers the bus had made, as its last turn

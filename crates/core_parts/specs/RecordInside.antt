@@ -1,8 +1,8 @@
 -- How a record is kept: both lists have the room that was reserved.
 use Rattle.std.specs.Prelude.{◌≡◌, ◌^◌, ◌<◌, ◌≤◌, length, vec_len}
 use Rattle.std.specs.Vec.{vec_capacity}
-use Rattle.leon_core.specs.RecordState.{RecordState}
-use Rattle.leon_core.specs.declared.record.Record.TheInside.{Inside}
+use Rattle.core_parts.specs.RecordState.{RecordState}
+use Rattle.core_parts.specs.declared.record.Record.TheInside.{Inside}
 
 abbrev pub kept : Inside → RecordState
 kept r = record {

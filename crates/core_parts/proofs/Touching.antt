@@ -2,7 +2,7 @@
 use Rattle.std.proofs.Common.{◌≡◌, ◌==◌, ℕ, true, false, Bool, List, [], ◌∷◌, Some, None, fold, length, refl, ap, if◌then◌else◌}
 use Rattle.std.proofs.Math.Seq.{map-set_same}
 use Rattle.std.proofs.lemmas.Bool.{eqb-true}
-use Rattle.leon_core.specs.PortState.{PortState, arrays_in, touch, bad_syndrome, answers}
+use Rattle.core_parts.specs.PortState.{PortState, arrays_in, touch, bad_syndrome, answers}
 use Rattle.lf_model.specs.Caches.Slot.{history_at}
 use Rattle.lf_model.specs.Course.Arrays.{read_back}
 use Rattle.lf_model.specs.Course.Touches.{touched}
