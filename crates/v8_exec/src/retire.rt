@@ -18,7 +18,9 @@ pub fn retire_with<P: Ports>(a: &mut Arch, rd: u8, value: u32, p: &mut P)
     requires register { rd < 32 }
     ensures state { state_of a.new (P.seen p.new) ≡ advanced (with_register rd value (state_of a.old (P.seen p.old))) }
     ensures sound { IsSound a.new }
-    ensures counts { (a.new.core ≡ a.old.core) × (a.new.n ≡ a.old.n) × (a.new.k ≡ a.old.k + 1) }
+    ensures core { a.new.core ≡ a.old.core }
+    ensures instructions { a.new.n ≡ a.old.n }
+    ensures operations { a.new.k ≡ a.old.k + 1 }
     ensures site { (P.seen p.new).site ≡ (P.seen p.old).site }
     ensures ops { (P.seen p.new).ops ≡ (P.seen p.old).ops }
     ensures touches { P.state p.new ≡ fold P.touch (P.state p.old) (write_touches (cell_written (state_of a.old (P.seen p.old)) rd)) }
@@ -39,7 +41,9 @@ pub fn finish_atomic<P: Ports>(a: &mut Arch, rd: u8, got: u32, p: &mut P)
     ensures finishes { (i : Instr) (parts : Parts) (addr len new : ℕ) → Finishes i parts (atomic_access addr len new rd) got a.old a.new (P.seen p.old) (P.seen p.new) }
     ensures state { state_of a.new (P.seen p.new) ≡ advanced (with_register rd got (state_of a.old (P.seen p.old))) }
     ensures sound { IsSound a.new }
-    ensures counts { (a.new.core ≡ a.old.core) × (a.new.n ≡ a.old.n + 1) × (a.new.k ≡ a.old.k + 1) }
+    ensures core { a.new.core ≡ a.old.core }
+    ensures instructions { a.new.n ≡ a.old.n + 1 }
+    ensures operations { a.new.k ≡ a.old.k + 1 }
     ensures site { (P.seen p.new).site ≡ (P.seen p.old).site }
     ensures ops { (P.seen p.new).ops ≡ (P.seen p.old).ops }
     ensures touches { P.state p.new ≡ fold P.touch (P.state p.old) (write_touches (cell_written (state_of a.old (P.seen p.old)) rd)) }
