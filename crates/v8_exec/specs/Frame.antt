@@ -16,19 +16,20 @@ abbrev pub bad_in : {A : Type 0} → Result A RegBad → Option RegBad
 bad_in (Ok x) = None
 bad_in (Err bad) = Some bad
 
--- ---- behind the registers
+-- ---- after the registers are read
 
 -- what an instruction comes to whose registers are good: the first row that holds, and else it retires
-abbrev pub came_behind : Parts → State → Effect → Did
-came_behind parts s e = unwrap_or (first_row (trap_row parts s.ctl.et e.trap ∷ access_row parts e.access ∷ barrier_row parts e.barrier ∷ [])) Retired
+abbrev pub came_after_reads : Parts → State → Effect → Did
+came_after_reads parts s e =
+    unwrap_or (first_row (trap_row parts s.ctl.et e.trap ∷ access_row parts e.access ∷ barrier_row parts e.barrier ∷ [])) Retired
 
 -- an instruction with this effect, whose registers are good, comes to this and leaves that
-pub record DoesBehind (core : ℕ) (parts : Parts) (e : Effect) (did : Did) (old new : Run) : Type 0 where
-  pub answer : did ≡ came_behind parts old.state e
+pub record DoesAfterReads (core : ℕ) (parts : Parts) (e : Effect) (did : Did) (old new : Run) : Type 0 where
+  pub answer : did ≡ came_after_reads parts old.state e
   pub leaves : new ≡ run_after core parts did e old
 
 abbrev pub Makes : Effect → Parts → Did → Arch → Arch → Seen → Seen → Type 0
-Makes e parts did old new before after = DoesBehind before.site.core parts e did (run_seen old before) (run_seen new after)
+Makes e parts did old new before after = DoesAfterReads before.site.core parts e did (run_seen old before) (run_seen new after)
 
 -- the same of an instruction with its own effect
 abbrev pub Performs : Instr → Parts → Did → Arch → Arch → Seen → Seen → Type 0
