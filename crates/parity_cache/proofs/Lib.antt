@@ -3,3 +3,9 @@ pub mod KeepLemmas
 pub mod UnitLemmas
 pub mod CleanLemmas
 pub mod VictimLemmas
+pub mod SetPlaces
+pub mod LessResident
+pub mod PutPlaces
+pub mod OwnStore
+pub mod FilledBytes
+pub mod Bytes
