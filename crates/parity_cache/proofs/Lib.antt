@@ -9,3 +9,6 @@ pub mod PutPlaces
 pub mod OwnStore
 pub mod FilledBytes
 pub mod Bytes
+pub mod MaskLemmas
+pub mod MarkLemmas
+pub mod KeptLemmas
