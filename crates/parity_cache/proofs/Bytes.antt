@@ -1,8 +1,8 @@
 -- What each touch leaves of the bytes of a core's caches.
-use Rattle.std.proofs.Common.{◌≡◌, ◌≢◌, ◌⊎◌, ◌&&◌, ℕ, ◌+◌, ◌-◌, ◌*◌, ◌/◌, ◌%◌, ◌^◌, ◌<◌, ◌≤◌, nat_le, nat_lt, Bool, true, false, cond, List, [], ◌∷◌, ◌++◌, length, replicate, refl, sym, ap, ap₂, ◌∙◌, subst, arith, inl, inr}
-use Rattle.std.specs.Prelude.{◌==◌, fold}
-use Rattle.std.proofs.lemmas.Bool.{cases_Bool, cases_lt, ltb-true}
-use Rattle.std.proofs.lemmas.List.{get_or_past, get_or-replicate, length-replicate}
+use Rattle.std.proofs.Common.{◌≡◌, ◌⊎◌, ◌&&◌, ℕ, ◌+◌, ◌*◌, ◌/◌, ◌%◌, ◌^◌, ◌<◌, ◌≤◌, nat_le, nat_lt, Bool, true, false, cond, List, [], ◌∷◌, ◌++◌, length, replicate, refl, sym, ap, ap₂, ◌∙◌, subst, arith, inl, inr}
+use Rattle.std.specs.Prelude.{◌==◌}
+use Rattle.std.proofs.lemmas.Bool.{cases_Bool, ltb-true}
+use Rattle.std.proofs.lemmas.List.{get_or-replicate, length-replicate}
 use Rattle.lf_model.proofs.HitLemmas.{both}
 use Rattle.lf_model.proofs.TagLemmas.{tag_empty}
 use Rattle.lf_model.proofs.ResidenceLaw.{has_tag}
@@ -10,7 +10,7 @@ use Rattle.lf_model.specs.Caches.Cache.{Cache, slot_at}
 use Rattle.lf_model.specs.Caches.Slot.{empty_slot, holds}
 use Rattle.lf_model.specs.Course.Arrays.{Arrays, with_cache as with_cache_of, struck_tag, struck_line, strike, begun}
 use Rattle.lf_model.specs.Course.Touches.{touched}
-use Rattle.lf_model.specs.Operation.{touches, byte_put, byte_of}
+use Rattle.lf_model.specs.Operation.{touches, byte_put}
 use Rattle.lf_model.specs.Value.{stored}
 use Rattle.lf_model.specs.declared.bus.Entry.{Entry}
 use Rattle.lf_model.specs.declared.config.Shape.{Shape}
@@ -20,7 +20,7 @@ use Rattle.lf_model.specs.declared.touch.Touch.{Touch}
 use Rattle.lf_model.specs.declared.touch.Touch.TheVariants.{StartStep, LookFetch, ReadCell, WriteCell, LookData, StoreData, FlushCaches, SnoopData, FillFetch, FillData}
 use Rattle.parity_slots.specs.SlotState.{IsAccess}
 use Rattle.parity_slots.proofs.AccessLemmas.{lies}
-use Rattle.parity_cache.specs.CacheState.{CacheState, IsCacheShape, reset_cache, line_at, stored_cache}
+use Rattle.parity_cache.specs.CacheState.{CacheState, IsCacheShape, reset_cache, stored_cache}
 use Rattle.parity_cache.specs.Resident.{Holds, IsWellFormed}
 use Rattle.parity_cache.proofs.LessResident.{IsLess, less_as, less_then, less_look, less_flushed, less_snooped, less_struck_tag, less_struck_line}
 use Rattle.parity_cache.proofs.OwnStore.{holds_stored}

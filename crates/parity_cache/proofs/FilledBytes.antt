@@ -1,5 +1,5 @@
 -- What a fill leaves of the bytes of a cache: its line has the words of the fill.
-use Rattle.std.proofs.Common.{◌≡◌, ◌≢◌, ◌==◌, ℕ, ◌+◌, ◌*◌, ◌/◌, ◌%◌, ◌^◌, ◌<◌, ◌≤◌, Bool, true, false, List, [], length, slice_index, slice_set, Contains, Some, refl, sym, ap, ap₂, ◌∙◌, subst, arith, inl, inr}
+use Rattle.std.proofs.Common.{◌≡◌, ◌≢◌, ℕ, ◌+◌, ◌*◌, ◌/◌, ◌%◌, ◌^◌, ◌<◌, true, List, [], length, slice_index, slice_set, Contains, refl, sym, ap, ap₂, ◌∙◌, subst, arith, inl, inr}
 use Rattle.std.specs.Int.{bit_at}
 use Rattle.std.specs.List.{range_with_len}
 use Rattle.std.proofs.lemmas.Bool.{cases_eq, eqb-true}
@@ -7,8 +7,8 @@ use Rattle.std.proofs.lemmas.List.{get_or-set_same, get_or-set_other, length-set
 use Rattle.std.proofs.lemmas.List.FromFn.{length-map-range_with_len, get_or-map-range_with_len}
 use Rattle.lf_model.proofs.CheckLemmas.{slot_same, slot_other}
 use Rattle.lf_model.proofs.FillLemmas.{victim_matches}
-use Rattle.lf_model.specs.Caches.Cache.{Cache, slot_at, with_slot, used}
-use Rattle.lf_model.specs.Caches.Change.{victim, filled}
+use Rattle.lf_model.specs.Caches.Cache.{slot_at, with_slot}
+use Rattle.lf_model.specs.Caches.Change.{victim}
 use Rattle.lf_model.specs.Caches.Slot.{Slot, filled_slot, holds}
 use Rattle.lf_model.specs.Operation.{byte_of}
 use Rattle.parity_slots.specs.SlotState.{bytes_of}
@@ -16,7 +16,7 @@ use Rattle.parity_cache.specs.CacheState.{CacheState, line_at, filled_in, filled
 use Rattle.parity_cache.specs.Resident.{Holds, IsApart, IsWellFormed}
 use Rattle.parity_cache.proofs.LessResident.{Resides, resides, is_resident}
 use Rattle.parity_cache.proofs.SetLemmas.{filled_is}
-use Rattle.parity_cache.proofs.SetPlaces.{InSet, contained, set_within, one_set, AreSets, are_sets, HasBytes, has_bytes, one_line, found_one, HasTag, same_tag}
+use Rattle.parity_cache.proofs.SetPlaces.{InSet, contained, set_within, one_set, AreSets, are_sets, HasBytes, has_bytes, one_line, found_one, same_tag}
 use Rattle.parity_cache.proofs.VictimLemmas.{victim_among}
 
 module _ (addr valid : ℕ) (words : List ℕ) (c : CacheState) (formed : IsWellFormed c) where

@@ -1,5 +1,5 @@
 -- What keeps a cache as it is kept.
-use Rattle.std.proofs.Common.{◌≡◌, ℕ, ◌+◌, ◌*◌, ◌/◌, ◌%◌, ◌<◌, ◌≤◌, true, false, List, length, slice_index_or, slice_set, ◌∙◌, arith}
+use Rattle.std.proofs.Common.{◌≡◌, ℕ, ◌+◌, ◌*◌, ◌<◌, ◌≤◌, true, false, List, length, slice_index_or, slice_set, ◌∙◌, arith}
 use Rattle.std.proofs.lemmas.List.{length-set}
 use Rattle.lf_model.specs.Caches.Slot.{Slot, empty_slot, has_struck_tag}
 use Rattle.parity_slots.specs.SlotsState.{slot_in}

@@ -1,5 +1,5 @@
 -- Where lines are dropped and bytes are struck, no byte becomes resident.
-use Rattle.std.proofs.Common.{◌≡◌, ◌≢◌, ℕ, zero, suc, ◌+◌, ◌*◌, ◌/◌, ◌%◌, ◌<◌, ◌≤◌, ◌||◌, nat_lt, not, Bool, true, false, cond, List, [], ◌∷◌, map, length, slice_index, Contains, Option, Some, None, refl, sym, ap, ◌∙◌, subst, arith, inl, inr}
+use Rattle.std.proofs.Common.{◌≡◌, ◌≢◌, ℕ, zero, suc, ◌+◌, ◌*◌, ◌/◌, ◌%◌, ◌<◌, ◌≤◌, ◌||◌, nat_lt, not, Bool, true, false, cond, List, [], ◌∷◌, map, length, Contains, Option, Some, None, refl, sym, ap, ◌∙◌, subst, arith, inl, inr}
 use Rattle.std.specs.Prelude.{fold}
 use Rattle.std.specs.List.{list_any, range_with_len}
 use Rattle.std.proofs.lemmas.Bool.{cases_eq, cases_lt}
@@ -15,9 +15,9 @@ use Rattle.lf_model.specs.Course.Arrays.{struck_by, struck_tag, struck_line}
 use Rattle.lf_model.specs.Flips.{Moment, Standing, byte_budget, standing, struck, is_struck_byte}
 use Rattle.lf_model.specs.declared.bus.Why.TheVariants as whys
 use Rattle.lf_model.specs.declared.config.Shape.{Shape}
-use Rattle.parity_cache.specs.CacheState.{CacheState, with_cache, line_at}
+use Rattle.parity_cache.specs.CacheState.{CacheState, with_cache}
 use Rattle.parity_cache.specs.Resident.{IsResident, Holds, IsApart, IsWellFormed}
-use Rattle.parity_cache.proofs.SetPlaces.{InSet, Matches, matches, none_holds, same_holds, same_set_of, set_within, are_sets}
+use Rattle.parity_cache.proofs.SetPlaces.{InSet, matches, none_holds, same_holds, same_set_of, set_within, are_sets}
 
 -- ---- slots
 

@@ -1,6 +1,6 @@
 -- What an own store leaves of the bytes of a cache: those that it wrote are its own, where its line is present.
-use Rattle.std.proofs.Common.{◌≡◌, ◌≢◌, ◌==◌, ◌⊎◌, ℕ, ◌+◌, ◌-◌, ◌*◌, ◌/◌, ◌%◌, ◌^◌, ◌<◌, ◌≤◌, Bool, true, false, List, [], length, slice_index, slice_set, Contains, Option, Some, None, refl, sym, ap, ◌∙◌, subst, arith, inl, inr}
-use Rattle.std.specs.List.{list_any, range_with_len}
+use Rattle.std.proofs.Common.{◌≡◌, ◌≢◌, ◌⊎◌, ℕ, ◌+◌, ◌-◌, ◌/◌, ◌%◌, ◌^◌, ◌<◌, ◌≤◌, true, List, [], length, slice_index, slice_set, Contains, Option, Some, None, refl, sym, ap, ◌∙◌, subst, arith, inl, inr}
+use Rattle.std.specs.List.{range_with_len}
 use Rattle.std.proofs.lemmas.Bool.{cases_eq, cases_lt}
 use Rattle.std.proofs.lemmas.List.{get_or-set_same, get_or-set_other, length-set}
 use Rattle.lf_model.proofs.CheckLemmas.{slot_same, slot_other}
@@ -14,9 +14,9 @@ use Rattle.lf_model.specs.Operation.{byte_of}
 use Rattle.parity_slots.specs.SlotState.{IsAccess, bytes_stored}
 use Rattle.parity_slots.proofs.AccessLemmas.{lies}
 use Rattle.parity_cache.specs.CacheState.{CacheState, with_cache, line_at, stored_by, stored_cache}
-use Rattle.parity_cache.specs.Resident.{IsResident, Holds, IsWellFormed}
+use Rattle.parity_cache.specs.Resident.{Holds, IsWellFormed}
 use Rattle.parity_cache.proofs.LessResident.{Resides, resides, is_resident, each_with, apart_less, less_checked, formed_less, holds_less}
-use Rattle.parity_cache.proofs.PutPlaces.{all_put, others_kept, as_long, put_there, passes, none_passes, not_among}
+use Rattle.parity_cache.proofs.PutPlaces.{others_kept, as_long, put_there, passes, none_passes, not_among}
 use Rattle.parity_cache.proofs.SetLemmas.{stored_is}
 use Rattle.parity_cache.proofs.SetPlaces.{InSet, Matches, matches, none_holds, same_holds, same_set_of, set_within, AreSets, are_sets, one_line, has_bytes}
 

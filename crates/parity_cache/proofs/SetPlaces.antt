@@ -1,16 +1,15 @@
 -- Which slots are of the set of an address, and which line a slot of it holds.
-use Rattle.std.proofs.Common.{◌≡◌, ◌≢◌, ◌||◌, ◌==◌, ◌&&◌, ℕ, suc, ◌+◌, ◌-◌, ◌*◌, ◌/◌, ◌%◌, ◌^◌, ◌<◌, ◌≤◌, Bool, true, false, not, List, [], ◌∷◌, length, slice_index, Contains, Option, Some, None, find, nat_eq, refl, sym, ap, ◌∙◌, subst, arith, inl, inr}
+use Rattle.std.proofs.Common.{◌≡◌, ◌==◌, ◌&&◌, ℕ, suc, ◌+◌, ◌-◌, ◌*◌, ◌/◌, ◌%◌, ◌^◌, ◌<◌, ◌≤◌, Bool, true, false, List, [], ◌∷◌, length, slice_index, Contains, Some, None, find, nat_eq, refl, sym, ap, ◌∙◌, subst, arith, inl, inr}
 use Rattle.std.specs.List.{list_any, range_with_len}
 use Rattle.std.proofs.Math.Nat.{mul-le-mul_right, suc-mul, mod-lt, mul_comm}
-use Rattle.std.proofs.lemmas.Bool.{cases_Bool, or_cases, eqb-true, eq-eqb}
+use Rattle.std.proofs.lemmas.Bool.{cases_Bool, or_cases, eqb-true}
 use Rattle.std.proofs.lemmas.List.FromFn.{length-range_with_len, get_or-range_with_len}
 use Rattle.lf_model.proofs.HitLemmas.{true_not_false, both, find_one, find_passes}
 use Rattle.lf_model.proofs.LineLemmas.{among, is_among, same_line, same_set}
 use Rattle.lf_model.specs.Caches.Cache.{Cache, slot_at, set_of, matching}
 use Rattle.lf_model.specs.Caches.Slot.{Slot, holds, is_present}
-use Rattle.parity_cache.specs.CacheState.{is_number_of_sets, IsCacheShape}
+use Rattle.parity_cache.specs.CacheState.{is_number_of_sets}
 use Rattle.parity_cache.specs.Resident.{IsApart}
-use Rattle.lf_model.specs.declared.config.Shape.{Shape}
 
 -- ---- shapes
 
