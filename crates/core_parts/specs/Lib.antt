@@ -1,8 +1,13 @@
 pub mod RecordState
 pub mod RecordInside
 pub mod PortState
+pub mod Work
+pub mod SiteInside
+pub mod Reset
+pub mod Inside
 pub mod CoreValue
 pub mod Phases
 pub mod Needs
 pub mod Seat
 pub mod Moves
+pub mod Completes

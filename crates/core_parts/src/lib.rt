@@ -1,11 +1,19 @@
-//! The parts of one core of the LEON3FT multiprocessor (GRLIB, LEON3FT): what it made, and what holds of its parts.
+//! The parts of one core of the LEON3FT multiprocessor (GRLIB, LEON3FT): its register cells, parity caches and store buffer, the record
+//! of what it made, and what holds of them.
 //!
-//! So far the crate has the record of a core's memory operations, and the definitions of what a core is (`specs/CoreValue.antt`), of its
-//! seat along its course (`specs/Seat.antt`) and of what its steps and turns leave of its parts (`specs/Moves.antt`).
+//! along its course (`specs/Seat.antt`) and what its steps and turns leave of its parts (`specs/Moves.antt`, `specs/Completes.antt`).
+//! Only the calls named `new` take memory.
 #![tactic(auto)]
 
+mod arrays;
+mod parts;
 mod phase;
+mod ports;
 mod record;
+mod site;
 
+pub use arrays::Arrays;
+pub use parts::Parts;
 pub use phase::{CoreState, Phase};
 pub use record::{Completed, Operation, Record};
+pub use site::Site;
