@@ -1,2 +1,5 @@
 pub mod Touching
 pub mod PortLemmas
+pub mod StrikeLemmas
+pub mod DueLemmas
+pub mod StepLemmas

@@ -5,6 +5,7 @@ pub mod Work
 pub mod SiteInside
 pub mod Reset
 pub mod Inside
+pub mod Strikes
 pub mod CoreValue
 pub mod Phases
 pub mod Needs

@@ -1,6 +1,8 @@
 //! The parts of one core of the LEON3FT multiprocessor (GRLIB, LEON3FT): its register cells, parity caches and store buffer, the record
 //! of what it made, and what holds of them.
 //!
+//! An instruction works on `Parts` through the ports of `v8_exec`. `strike_due` lets the flips of a step strike the arrays. `good_words`,
+//! `good_text_words` and `good_wanted` read a line that a fill got. The definitions say what a core is (`specs/CoreValue.antt`), its seat
 //! along its course (`specs/Seat.antt`) and what its steps and turns leave of its parts (`specs/Moves.antt`, `specs/Completes.antt`).
 //! Only the calls named `new` take memory.
 #![tactic(auto)]
@@ -11,9 +13,11 @@ mod phase;
 mod ports;
 mod record;
 mod site;
+mod strikes;
 
 pub use arrays::Arrays;
 pub use parts::Parts;
 pub use phase::{CoreState, Phase};
 pub use record::{Completed, Operation, Record};
 pub use site::Site;
+pub use strikes::strike_due;
