@@ -3,3 +3,4 @@ pub mod PortLemmas
 pub mod StrikeLemmas
 pub mod DueLemmas
 pub mod StepLemmas
+pub mod ValidBits

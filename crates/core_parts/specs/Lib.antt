@@ -6,6 +6,7 @@ pub mod SiteInside
 pub mod Reset
 pub mod Inside
 pub mod Strikes
+pub mod Fills
 pub mod CoreValue
 pub mod Phases
 pub mod Needs

@@ -8,6 +8,7 @@
 #![tactic(auto)]
 
 mod arrays;
+mod fill;
 mod parts;
 mod phase;
 mod ports;
@@ -16,6 +17,7 @@ mod site;
 mod strikes;
 
 pub use arrays::Arrays;
+pub use fill::{good_text_words, good_wanted, good_words};
 pub use parts::Parts;
 pub use phase::{CoreState, Phase};
 pub use record::{Completed, Operation, Record};
