@@ -4,3 +4,4 @@ pub mod StrikeLemmas
 pub mod DueLemmas
 pub mod StepLemmas
 pub mod ValidBits
+pub mod FateLemmas

@@ -7,6 +7,7 @@ pub mod Reset
 pub mod Inside
 pub mod Strikes
 pub mod Fills
+pub mod Fates
 pub mod CoreValue
 pub mod Phases
 pub mod Needs
