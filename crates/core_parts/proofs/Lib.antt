@@ -5,3 +5,6 @@ pub mod DueLemmas
 pub mod StepLemmas
 pub mod ValidBits
 pub mod FateLemmas
+pub mod Quiet
+pub mod Stays
+pub mod AtReset

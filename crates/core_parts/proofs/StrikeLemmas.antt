@@ -21,7 +21,7 @@ use Rattle.parity_cache.specs.declared.unit.Unit.{Unit as CacheUnit}
 -- ---- one element of a list is replaced
 
 -- what holds of an element then held before, or the element is the one replaced
-changed : {X : Type 0} (P : X → Type 0) (change : X → X) (xs : List X) (i j : ℕ) (e : X)
+pub changed : {X : Type 0} (P : X → Type 0) (change : X → X) (xs : List X) (i j : ℕ) (e : X)
     → P (slice_index_or (slice_set xs i (change (slice_index_or xs i e))) j e) → P (slice_index_or xs j e) ⊎ ((i ≡ j) × P (change (slice_index_or xs j e)))
 changed P change [] i j e p = inl p
 changed P change (x ∷ xs) zero zero e p = inr (refl, p)
