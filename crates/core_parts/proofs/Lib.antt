@@ -8,3 +8,4 @@ pub mod FateLemmas
 pub mod Quiet
 pub mod Stays
 pub mod AtReset
+pub mod Begins

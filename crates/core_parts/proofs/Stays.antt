@@ -1,12 +1,13 @@
 -- What holds of the arrays of a core and the script stays, where no flip strikes: as touches of instructions and turns go.
-use Rattle.std.proofs.Common.{◌≡◌, ℕ, ◌+◌, ◌*◌, Bool, true, false, List, [], ◌∷◌, length, refl, sym, ap, ◌∙◌, subst}
+use Rattle.std.proofs.Common.{◌≡◌, ℕ, ◌+◌, ◌*◌, ◌≤◌, Bool, true, false, List, [], ◌∷◌, length, refl, sym, ap, ◌∙◌, subst, arith}
 use Rattle.std.specs.Prelude.{fold, slice_get}
 use Rattle.core_parts.proofs.Quiet.{StruckIn, QuietCache, QuietArrays, quiet_touches}
 use Rattle.core_parts.proofs.StrikeLemmas.{units_stay}
-use Rattle.core_parts.specs.Inside.{state_in}
-use Rattle.core_parts.specs.PortState.{arrays_in}
+use Rattle.core_parts.specs.CanRun.{CanRun}
+use Rattle.core_parts.specs.Inside.{state_in, room_in}
+use Rattle.core_parts.specs.PortState.{arrays_in, answers}
 use Rattle.core_parts.specs.Strikes.{arrays_of, unit_at, IsOfArrays, history_of, AimsAt, IsFor, CameAs, Came}
-use Rattle.core_parts.specs.Work.{WorkState, work_touch}
+use Rattle.core_parts.specs.Work.{WorkState, work_touch, load_made}
 use Rattle.core_parts.specs.declared.arrays.Arrays.{Arrays}
 use Rattle.core_parts.specs.declared.parts.Parts.{Parts}
 use Rattle.flip_ledger.specs.Follows.{has_struck}
@@ -20,7 +21,11 @@ use Rattle.lf_model.specs.Course.Touches.{touched}
 use Rattle.lf_model.specs.Ledger.FlipFate.{cache_in}
 use Rattle.lf_model.specs.declared.config.Shape.{Shape}
 use Rattle.lf_model.specs.declared.flip.Flip.{Flip}
+use Rattle.lf_model.specs.declared.setup.Setup.{Setup}
+use Rattle.lf_model.specs.declared.step.Look.{Look}
+use Rattle.lf_model.specs.declared.step.Look.TheVariants.{Hit, Miss}
 use Rattle.lf_model.specs.declared.touch.Touch.{Touch}
+use Rattle.lf_model.specs.declared.touch.Touch.TheVariants.{StartStep, LookFetch, ReadCell, WriteCell, LookData, StoreData, FlushCaches, SnoopData, FillFetch, FillData}
 use Rattle.parity_cache.specs.CacheUnits.{history_of_unit}
 
 module _ (old new : CourseArrays) (quiet : QuietArrays old new) where
@@ -78,6 +83,29 @@ pub setup_stays : (ts : List Touch) (s : WorkState) → (fold work_touch s ts).s
 setup_stays [] s = refl
 setup_stays (t ∷ ts) s = setup_stays ts (work_touch s t)
 
+made_once : (t : Touch) (s : WorkState) → ((work_touch s t).made.core ≡ s.made.core) × ((work_touch s t).made.steps ≡ s.made.steps)
+made_once (LookData addr len) s = by ((answers s.ports).look addr len)
+  where
+    by : (answer : Look) → ((load_made addr len answer s.made).core ≡ s.made.core) × ((load_made addr len answer s.made).steps ≡ s.made.steps)
+    by (Hit value way) = (refl, refl)
+    by (Miss why) = (refl, refl)
+made_once (StoreData addr len value) s = (refl, refl)
+made_once (StartStep step) s = (refl, refl)
+made_once (LookFetch addr) s = (refl, refl)
+made_once (ReadCell cell) s = (refl, refl)
+made_once (WriteCell cell) s = (refl, refl)
+made_once FlushCaches s = (refl, refl)
+made_once (SnoopData addr) s = (refl, refl)
+made_once (FillFetch addr valid) s = (refl, refl)
+made_once (FillData addr valid) s = (refl, refl)
+
+record_stays : (ts : List Touch) (s : WorkState) → ((fold work_touch s ts).made.core ≡ s.made.core) × ((fold work_touch s ts).made.steps ≡ s.made.steps)
+record_stays [] s = (refl, refl)
+record_stays (t ∷ ts) s =
+    let later = record_stays ts (work_touch s t) in
+    let now = made_once t s in
+    (later.0 ∙ now.0, later.1 ∙ now.1)
+
 module _ (ts : List Touch) (old new : Parts) (state : state_in new ≡ fold work_touch (state_in old) ts) where
   quiet_parts : QuietArrays (arrays_of old.arrays) (arrays_of new.arrays)
   quiet_parts =
@@ -92,3 +120,24 @@ module _ (ts : List Touch) (old new : Parts) (state : state_in new ≡ fold work
   units_after core script units =
       units_of_script_stay core script old.arrays new.arrays quiet_parts (ap (λ (s : WorkState). s.flips) state ∙ flips_stay ts (state_in old))
       (ap (λ (s : WorkState). s.ports.fetch_cache.flips) state ∙ fetch_flips_stay ts (state_in old)) (ap (λ (s : WorkState). s.ports.data_cache.flips) state ∙ data_flips_stay ts (state_in old)) units
+
+  -- what an instruction leaves of the record and the setup
+  record_is : (new.record.core ≡ old.record.core) × ((new.record.steps ≡ old.record.steps) × (new.site ≡ old.site))
+  record_is =
+      let kept = record_stays ts (state_in old) in
+      (
+        ap (λ (s : WorkState). s.made.core) state ∙ kept.0,
+        (ap (λ (s : WorkState). s.made.steps) state ∙ kept.1, ap (λ (s : WorkState). s.setup) state ∙ setup_stays ts (state_in old)),
+      )
+
+  -- a core that can run can run on after an instruction, which its steps then count or not
+  pub can_run_on : (begun counted : ℕ) → CanRun begun old → room_in old ≤ room_in new + counted → CanRun begun (record new { «record» = record new.record { steps = new.record.steps + counted } })
+  can_run_on begun counted runs taken = record {
+    units = rw (record_is.0, record_is.1.1) (units_after old.record.core old.site.flips runs.units);
+    came = rw (record_is.0, record_is.1.1) (came_after old.site.flips old.record.core begun runs.came);
+    room =
+        let steps : new.record.steps ≡ old.record.steps = record_is.1.0 in
+        let limit : new.site.config.steps ≡ old.site.config.steps = ap (λ (s : Setup). s.config.steps) record_is.1.1 in
+        let room : old.site.config.steps ≤ room_in old + old.record.steps = runs.room in
+        omega (arith, steps, limit, room, taken);
+  }

@@ -1,11 +1,16 @@
-ghost use Rattle.std.specs.Prelude.{◌≡◌, ◌^◌, ◌<◌, ◌≤◌, [], length, nat_lt, IfOk};
+ghost use Rattle.std.specs.Prelude.{◌≡◌, ◌+◌, ◌^◌, ◌<◌, ◌≤◌, [], length, nat_lt, IfOk};
 ghost use Rattle.core_laws.specs.SeenSoFar.{losing};
+ghost use Rattle.core_parts.specs.Strikes.{arrays_of, with_arrays, own_flips};
+ghost use Rattle.flip_ledger.specs.Plan.{IsPlanned};
+ghost use Rattle.lf_model.specs.Course.Arrays.{begun};
 ghost use Rattle.parity_cache.specs.CacheState.{IsCacheShape};
 ghost use Rattle.store_buffer.specs.BufferState.{BufferState};
 
 use crate::arrays::Arrays;
 use crate::record::Record;
 use crate::site::Site;
+use crate::strikes::strike_due;
+use flip_ledger::{FlipPlan, Owner};
 use lf_model::setup::Setup;
 use std::alloc::{AllocError, Global};
 use store_buffer::Buffer;
@@ -30,6 +35,7 @@ fn drop_waiting(buffer: &mut Buffer)
 }
 
 impl Parts {
+    ghost use Rattle.core_parts.specs.CanRun.{CanRun};
     ghost use Rattle.core_parts.specs.Inside.{StartsAt};
 
     /// The parts of core number `core` at reset, with room for all that its steps may record.
@@ -54,6 +60,23 @@ impl Parts {
             out: Vec::with_capacity(alloc, steps)?,
             site: Site::new(alloc, s)?,
         })
+    }
+
+    /// A step of core number `core` begins: the script's flips for it strike.
+    pub fn begin_step(&mut self, plan: &mut FlipPlan, core: u32)
+        requires core { core ≡ self.old.record.core }
+        requires planned { IsPlanned (Owner.Core core) self.old.site.flips self.old.record.steps plan.old }
+        requires runs { CanRun self.old.record.steps self.old }
+        ensures struck {
+            self.new ≡ record self.old {
+                arrays = with_arrays self.old.arrays (begun (own_flips core self.old.site.flips) self.old.record.steps (arrays_of self.old.arrays))
+            }
+        }
+        ensures planned { IsPlanned (Owner.Core core) self.old.site.flips (self.old.record.steps + 1) plan.new }
+        ensures runs { CanRun (self.old.record.steps + 1) self.new }
+    {
+        let step = self.record.steps();
+        strike_due(&mut self.arrays, plan, &self.site, core, step);
     }
 
     /// A store waits for the bus.
