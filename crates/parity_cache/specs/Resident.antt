@@ -20,7 +20,8 @@ Holds byte c = (slot addr : ℕ) → addr < 4294967296 → IsResident c slot add
 
 -- no line is present in two slots of its set
 abbrev pub IsApart : Cache → Type 0
-IsApart cache = (addr i j : ℕ) → Contains (set_of addr cache) i → Contains (set_of addr cache) j → holds addr (slot_at i cache) ≡ true → holds addr (slot_at j cache) ≡ true → i ≡ j
+IsApart cache = (addr i j : ℕ) → Contains (set_of addr cache) i → Contains (set_of addr cache) j → holds addr (slot_at i cache) ≡ true
+    → holds addr (slot_at j cache) ≡ true → i ≡ j
 
 -- each way of each set has a line of 32 bytes, and no line is present twice: so is a cache at reset, and so it stays
 pub record IsWellFormed (c : CacheState) : Type 0 where
