@@ -124,8 +124,7 @@ module _ (ts : List Touch) (old new : Parts) (state : state_in new ≡ fold work
   -- what an instruction leaves of the record and the setup
   record_is : (new.record.core ≡ old.record.core) × ((new.record.steps ≡ old.record.steps) × (new.site ≡ old.site))
   record_is =
-      let kept = record_stays ts (state_in old) in
-      (
+      let kept = record_stays ts (state_in old) in (
         ap (λ (s : WorkState). s.made.core) state ∙ kept.0,
         (ap (λ (s : WorkState). s.made.steps) state ∙ kept.1, ap (λ (s : WorkState). s.setup) state ∙ setup_stays ts (state_in old)),
       )
