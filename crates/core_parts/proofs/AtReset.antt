@@ -65,7 +65,7 @@ module _ (config : Config) (i : ℕ) where
   none_struck (Line false w s b) = cache_none config.load_cache false w s b
 
 -- a core at reset can run
-pub can_start : (setup : Setup) (core : ℕ) (p : Parts) → StartsAt setup core p → AllByRecursion (AimsAt core (reset_arrays setup.config)) setup.flips → setup.config.steps < 4294967296 → CanRun 0 p
+pub can_start : (setup : Setup) (core : ℕ) (p : Parts) → StartsAt setup core p → AllByRecursion (AimsAt core (reset_arrays setup.config)) setup.flips → setup.config.steps < 4294967296 → CanRun 0 0 p
 can_start setup core p s aims few = record {
   units = rw (s.site, s.made) (record {
     cells = rw s.registers (length-replicate {A = List Moment} register_cells []);
@@ -86,5 +86,9 @@ can_start setup core p s aims few = record {
       let no_bytes : length p.out.items ≡ 0 = ap (λ (xs : List ℕ). length xs) s.out in
       let bytes : vec_capacity p.out ≡ setup.config.steps = s.out_room in
       let no_uses : p.arrays.data_cache.cache.uses ≡ 0 = ap (λ (c : CacheState). c.cache.uses) s.data_cache in
+      omega arith;
+  fetch_room =
+      let steps : p.site.config.steps ≡ setup.config.steps = ap (λ (x : Setup). x.config.steps) s.site in
+      let no_uses : p.arrays.fetch_cache.cache.uses ≡ 0 = ap (λ (c : CacheState). c.cache.uses) s.fetch_cache in
       omega arith;
 }

@@ -9,3 +9,4 @@ pub mod Quiet
 pub mod Stays
 pub mod AtReset
 pub mod Begins
+pub mod Spares

@@ -1,10 +1,12 @@
 -- What holds of the arrays of a core and the script stays, where no flip strikes: as touches of instructions and turns go.
 use Rattle.std.proofs.Common.{◌≡◌, ℕ, ◌+◌, ◌*◌, ◌≤◌, Bool, true, false, List, [], ◌∷◌, length, refl, sym, ap, ◌∙◌, subst, arith}
 use Rattle.std.specs.Prelude.{fold, slice_get}
-use Rattle.core_parts.proofs.Quiet.{StruckIn, QuietCache, QuietArrays, quiet_touches}
+use Rattle.core_parts.proofs.PortLemmas.{uses_of, look_uses}
+use Rattle.core_parts.proofs.Quiet.{StruckIn, QuietCache, QuietArrays, quiet_touch, quiet_touches}
+use Rattle.core_parts.proofs.Spares.{AllSpare, fetch_uses_stay}
 use Rattle.core_parts.proofs.StrikeLemmas.{units_stay}
 use Rattle.core_parts.specs.CanRun.{CanRun}
-use Rattle.core_parts.specs.Inside.{state_in, room_in}
+use Rattle.core_parts.specs.Inside.{state_in, room_in, uses_left}
 use Rattle.core_parts.specs.PortState.{arrays_in, answers}
 use Rattle.core_parts.specs.Strikes.{arrays_of, unit_at, IsOfArrays, history_of, AimsAt, IsFor, CameAs, Came}
 use Rattle.core_parts.specs.Work.{WorkState, work_touch, load_made}
@@ -16,6 +18,8 @@ use Rattle.flip_ledger.specs.declared.plan.Target.{Target}
 use Rattle.flip_ledger.specs.declared.plan.Target.TheVariants.{Word, Register, Tag, Line}
 use Rattle.lf_model.proofs.EachLemmas.{each_weaker}
 use Rattle.lf_model.specs.Caches.Cache.{Cache, slot_at}
+use Rattle.lf_model.specs.Caches.Look.{LookUp, look}
+use Rattle.lf_model.specs.Caches.Look.LookUp.{Hit as Hits, Miss as Misses}
 use Rattle.lf_model.specs.Course.Arrays.{Arrays as CourseArrays}
 use Rattle.lf_model.specs.Course.Touches.{touched}
 use Rattle.lf_model.specs.Ledger.FlipFate.{cache_in}
@@ -26,6 +30,7 @@ use Rattle.lf_model.specs.declared.step.Look.{Look}
 use Rattle.lf_model.specs.declared.step.Look.TheVariants.{Hit, Miss}
 use Rattle.lf_model.specs.declared.touch.Touch.{Touch}
 use Rattle.lf_model.specs.declared.touch.Touch.TheVariants.{StartStep, LookFetch, ReadCell, WriteCell, LookData, StoreData, FlushCaches, SnoopData, FillFetch, FillData}
+use Rattle.parity_cache.specs.CacheState.{CacheState, with_cache}
 use Rattle.parity_cache.specs.CacheUnits.{history_of_unit}
 
 module _ (old new : CourseArrays) (quiet : QuietArrays old new) where
@@ -106,6 +111,10 @@ record_stays (t ∷ ts) s =
     let now = made_once t s in
     (later.0 ∙ now.0, later.1 ∙ now.1)
 
+uses_at_most : (answer : LookUp) → uses_of answer ≤ 1
+uses_at_most (Hits slot) = omega arith
+uses_at_most (Misses why) = omega arith
+
 module _ (ts : List Touch) (old new : Parts) (state : state_in new ≡ fold work_touch (state_in old) ts) where
   quiet_parts : QuietArrays (arrays_of old.arrays) (arrays_of new.arrays)
   quiet_parts =
@@ -124,15 +133,15 @@ module _ (ts : List Touch) (old new : Parts) (state : state_in new ≡ fold work
   -- what an instruction leaves of the record and the setup
   record_is : (new.record.core ≡ old.record.core) × ((new.record.steps ≡ old.record.steps) × (new.site ≡ old.site))
   record_is =
-      let kept = record_stays ts (state_in old) in
-      (
+      let kept = record_stays ts (state_in old) in (
         ap (λ (s : WorkState). s.made.core) state ∙ kept.0,
         (ap (λ (s : WorkState). s.made.steps) state ∙ kept.1, ap (λ (s : WorkState). s.setup) state ∙ setup_stays ts (state_in old)),
       )
 
   -- a core that can run can run on after an instruction, which its steps then count or not
-  pub can_run_on : (begun counted : ℕ) → CanRun begun old → room_in old ≤ room_in new + counted → CanRun begun (record new { «record» = record new.record { steps = new.record.steps + counted } })
-  can_run_on begun counted runs taken = record {
+  pub can_run_on : (begun counted looked left : ℕ) → CanRun begun looked old → AllSpare ts → room_in old ≤ room_in new + counted → looked ≤ counted + left
+      → CanRun begun left (record new { «record» = record new.record { steps = new.record.steps + counted } })
+  can_run_on begun counted looked left runs spares taken enough = record {
     units = rw (record_is.0, record_is.1.1) (units_after old.record.core old.site.flips runs.units);
     came = rw (record_is.0, record_is.1.1) (came_after old.site.flips old.record.core begun runs.came);
     room =
@@ -140,4 +149,28 @@ module _ (ts : List Touch) (old new : Parts) (state : state_in new ≡ fold work
         let limit : new.site.config.steps ≡ old.site.config.steps = ap (λ (s : Setup). s.config.steps) record_is.1.1 in
         let room : old.site.config.steps ≤ room_in old + old.record.steps = runs.room in
         omega (arith, steps, limit, room, taken);
+    fetch_room =
+        let steps : new.record.steps ≡ old.record.steps = record_is.1.0 in
+        let limit : new.site.config.steps ≡ old.site.config.steps = ap (λ (s : Setup). s.config.steps) record_is.1.1 in
+        let uses : new.arrays.fetch_cache.cache.uses ≡ old.arrays.fetch_cache.cache.uses = ap (λ (s : WorkState). s.ports.fetch_cache.cache.uses) state ∙ fetch_uses_stay ts (state_in old) spares in
+        let room : old.site.config.steps ≤ uses_left old.arrays.fetch_cache + (old.record.steps + looked) = runs.fetch_room in
+        omega (arith, steps, limit, uses, room, enough);
   }
+
+-- a fetch is looked up
+pub can_run_looked : (begun addr : ℕ) (p : Parts) (c : CacheState) → c ≡ with_cache (look addr 4 p.arrays.fetch_cache.cache).cache p.arrays.fetch_cache → CanRun begun 0 p
+    → CanRun begun 1 (record p { arrays = record p.arrays { fetch_cache = c } })
+can_run_looked begun addr p c is runs =
+    let shown : uses_of (look addr 4 p.arrays.fetch_cache.cache).answer ≤ 1 = uses_at_most (look addr 4 p.arrays.fetch_cache.cache).answer in
+    let uses : c.cache.uses ≡ p.arrays.fetch_cache.cache.uses + uses_of (look addr 4 p.arrays.fetch_cache.cache).answer =
+    ap (λ (s : CacheState). s.cache.uses) is ∙ look_uses addr 4 p.arrays.fetch_cache.cache in
+    let quiet : QuietArrays (arrays_of p.arrays) (arrays_of (record p.arrays { fetch_cache = c })) =
+    rw is (quiet_touch (arrays_of p.arrays) (LookFetch addr)) in
+    let room : p.site.config.steps ≤ uses_left p.arrays.fetch_cache + (p.record.steps + 0) = runs.fetch_room in
+    record {
+      units =
+          units_of_script_stay p.record.core p.site.flips p.arrays (record p.arrays { fetch_cache = c }) quiet refl (ap (λ (s : CacheState). s.flips) is) refl runs.units;
+      came = came_stays (arrays_of p.arrays) (arrays_of (record p.arrays { fetch_cache = c })) quiet p.site.flips p.record.core begun runs.came;
+      room = runs.room;
+      fetch_room = omega (arith, shown, uses, room);
+    }

@@ -1,12 +1,14 @@
 -- What a core needs of its parts, before a step and through it.
 use Rattle.std.specs.Prelude.{ℕ, ◌+◌, ◌≤◌}
-use Rattle.core_parts.specs.Inside.{room_in}
+use Rattle.core_parts.specs.Inside.{room_in, uses_left}
 use Rattle.core_parts.specs.Strikes.{arrays_of, IsFor, Came}
 use Rattle.core_parts.specs.declared.parts.Parts.{Parts}
 
--- begun: how many steps were begun, whose flips struck. Its arrays are those of the script, no flip of a later step struck them,
--- and there is room for what the steps to come may record.
-pub record CanRun (begun : ℕ) (p : Parts) : Type 0 where
+-- begun: how many steps were begun, whose flips struck; looked: 1 once the step that is begun looked its fetch up, else 0.
+-- Its arrays are those of the script, no flip of a later step struck them, and there is room for what the steps to come may
+-- record, and for their uses of the fetch cache.
+pub record CanRun (begun looked : ℕ) (p : Parts) : Type 0 where
   pub units : IsFor p.record.core p.site.flips p.arrays
   pub came : Came p.site.flips p.record.core begun (arrays_of p.arrays)
   pub room : p.site.config.steps ≤ room_in p + p.record.steps
+  pub fetch_room : p.site.config.steps ≤ uses_left p.arrays.fetch_cache + (p.record.steps + looked)

@@ -23,10 +23,8 @@ impl Arrays {
         requires registers { number < self.now.registers.flips }
         requires fetch_cache { number < self.now.fetch_cache.flips }
         requires data_cache { number < self.now.data_cache.flips }
-        ensures {
-            (script : List Flip) (core step : ℕ) (flip : Flip) → IsFor core script self.now → Came script core step (arrays_of self.now)
-                → slice_get script number ≡ Some flip → result ≡ own_fate core (arrays_of self.now) number flip
-        }
+        ensures { (script : List Flip) (core step : ℕ) (flip : Flip) → IsFor core script self.now → Came script core step (arrays_of self.now)
+            → slice_get script number ≡ Some flip → result ≡ own_fate core (arrays_of self.now) number flip }
     {
         let cells = self.registers.fate(number);
         let fetch = self.fetch_cache.fate(number);

@@ -66,14 +66,12 @@ impl Parts {
     pub fn begin_step(&mut self, plan: &mut FlipPlan, core: u32)
         requires core { core ≡ self.old.record.core }
         requires planned { IsPlanned (Owner.Core core) self.old.site.flips self.old.record.steps plan.old }
-        requires runs { CanRun self.old.record.steps self.old }
-        ensures struck {
-            self.new ≡ record self.old {
-                arrays = with_arrays self.old.arrays (begun (own_flips core self.old.site.flips) self.old.record.steps (arrays_of self.old.arrays))
-            }
-        }
+        requires runs { CanRun self.old.record.steps 0 self.old }
+        ensures struck { self.new ≡ record self.old {
+          arrays = with_arrays self.old.arrays (begun (own_flips core self.old.site.flips) self.old.record.steps (arrays_of self.old.arrays));
+        } }
         ensures planned { IsPlanned (Owner.Core core) self.old.site.flips (self.old.record.steps + 1) plan.new }
-        ensures runs { CanRun (self.old.record.steps + 1) self.new }
+        ensures runs { CanRun (self.old.record.steps + 1) 0 self.new }
     {
         let step = self.record.steps();
         strike_due(&mut self.arrays, plan, &self.site, core, step);
@@ -88,12 +86,10 @@ impl Parts {
 
     /// The stores that wait never reach memory. The first of them is operation number `first`.
     pub fn lose_waiting(&mut self, first: u32)
-        ensures {
-            self.new ≡ record self.old {
-                buffer = record self.old.buffer { waiting = [] };
-                «record» = record self.old.record { ops = losing first self.old.record.ops };
-            }
-        }
+        ensures { self.new ≡ record self.old {
+          buffer = record self.old.buffer { waiting = [] };
+          «record» = record self.old.record { ops = losing first self.old.record.ops };
+        } }
     {
         drop_waiting(&mut self.buffer);
         self.record.lose_from(first);

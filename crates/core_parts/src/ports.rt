@@ -45,12 +45,10 @@ impl Parts {
         requires access { IsAccess addr len }
         requires uses { self.old.arrays.data_cache.cache.uses + 1 < 2 ^ 32 }
         requires room { length self.old.record.ops < self.old.record.room }
-        ensures {
-            self.new ≡ record self.old {
-                arrays = record self.old.arrays { data_cache = stored_cache addr len value self.old.arrays.data_cache };
-                «record» = store_made addr len value self.old.record;
-            }
-        }
+        ensures { self.new ≡ record self.old {
+          arrays = record self.old.arrays { data_cache = stored_cache addr len value self.old.arrays.data_cache };
+          «record» = store_made addr len value self.old.record;
+        } }
     {
         self.arrays.data_cache.update(addr, len, value);
         self.record.retire(Operation {
