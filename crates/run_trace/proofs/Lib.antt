@@ -22,4 +22,7 @@ pub mod Gatherable
 pub mod Regularity
 pub mod Stepping
 pub mod FlipsKept
+pub mod Accounts
+pub mod AlongOrder
+pub mod OrderAccounts
 pub mod Promised

@@ -63,7 +63,7 @@ each_some : {X : Type 0} (P : X → Type 0) (xs : List X) → ((i : ℕ) (x : X)
 each_some P [] h = tt
 each_some P (x ∷ xs) h = (h 0 x refl, each_some P xs (λ i y found. h (suc i) y found))
 
-from_some : {X P : Type 0} (Q : X → Type 0) (o : Option X) → IsSomeAnd o Q → ((x : X) → o ≡ Some x → Q x → P) → P
+pub from_some : {X P : Type 0} (Q : X → Type 0) (o : Option X) → IsSomeAnd o Q → ((x : X) → o ≡ Some x → Q x → P) → P
 from_some Q None h f = absurd h
 from_some Q (Some x) h f = f x refl h
 

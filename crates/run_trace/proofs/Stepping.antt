@@ -18,7 +18,7 @@ module _ (p : Transfer → Bool) (blind : (t : Transfer) → p t ≡ p (without_
   filter_blind : (ts : List Transfer) → filter p (map without_length ts) ≡ map without_length (filter p ts)
   filter_blind ts = sym (filter_map_same p p without_length ts (each_all (λ (t : Transfer). p t ≡ p (without_length t)) ts blind))
 
-  count_blind : (ts : List Transfer) → count_by p (map without_length ts) ≡ count_by p ts
+  pub count_blind : (ts : List Transfer) → count_by p (map without_length ts) ≡ count_by p ts
   count_blind ts =
       sym (length-filter p (map without_length ts))
       ∙ (ap (λ (us : List Transfer). length us) (filter_blind ts) ∙ (length-map (filter p ts) without_length ∙ length-filter p ts))
