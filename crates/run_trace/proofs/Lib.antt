@@ -25,4 +25,9 @@ pub mod FlipsKept
 pub mod Accounts
 pub mod AlongOrder
 pub mod OrderAccounts
+pub mod CourseKept
+pub mod Sound
+pub mod EntryNumbers
+pub mod EntriesMade
+pub mod LedgerKept
 pub mod Promised

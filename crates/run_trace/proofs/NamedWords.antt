@@ -28,7 +28,7 @@ or_none : (b : Bool) → (b || false) ≡ b
 or_none true = refl
 or_none false = refl
 
-same_both_ways : (a b : ℕ) → (a == b) ≡ (b == a)
+pub same_both_ways : (a b : ℕ) → (a == b) ≡ (b == a)
 same_both_ways a b = elim (cases_Bool (b == a)) [
   | inl same ↦ rw same (eq-eqb a b (sym (eqb-true b a same)))
   | inr other ↦ rw other (ne_eqb a b (λ same. eqb-false b a other (sym same)))

@@ -2,6 +2,7 @@
 use Rattle.std.proofs.Common.{◌≡◌, ◌<◌, ◌^◌, ℕ, true, List, Result, Ok, Err, IfOk, ap, sym, subst}
 use Rattle.std.proofs.lemmas.Bool.{lt-ltb}
 use Rattle.ahb_bus.specs.declared.record.BusRecord.{BusRecord}
+use Rattle.lf_model.specs.Ledger.Rule.{KeepsLedger}
 use Rattle.lf_model.specs.Promise.Headline.{Headline}
 use Rattle.lf_model.specs.Promise.Regular.{IsRegular}
 use Rattle.lf_model.specs.declared.record.CoreRecord.{CoreRecord}
@@ -10,6 +11,7 @@ use Rattle.lf_model.specs.declared.trace.Trace.{Trace}
 use Rattle.lf_model.specs.declared.trace.Word2.{Word2}
 use Rattle.run_trace.specs.Gathered.{gathered, IsGatherable}
 use Rattle.run_trace.proofs.Headlines.{headline}
+use Rattle.run_trace.proofs.LedgerKept.{ledger}
 use Rattle.run_trace.proofs.Regularity.{regular}
 
 module _ (setup : Setup) (records : List CoreRecord) (bus : BusRecord) (watch : List Word2) (ok : IsGatherable setup records bus watch) {E : Type 0} where
@@ -23,3 +25,7 @@ module _ (setup : Setup) (records : List CoreRecord) (bus : BusRecord) (watch : 
   pub promised_headline : (result : Result Trace E) → IfOk result (λ trace. trace ≡ gathered setup records bus watch) → IfOk result (Headline setup)
   promised_headline (Err e) is = tt
   promised_headline (Ok trace) is = subst (Headline setup) (sym is) (headline setup records bus watch ok)
+
+  pub promised_ledger : (result : Result Trace E) → IfOk result (λ trace. trace ≡ gathered setup records bus watch) → IfOk result (KeepsLedger setup)
+  promised_ledger (Err e) is = tt
+  promised_ledger (Ok trace) is = subst (KeepsLedger setup) (sym is) (ledger setup records bus watch ok)

@@ -51,7 +51,7 @@ use Rattle.run_trace.proofs.Woven.{each_woven}
 
 -- ---- lists
 
-each_true : {X : Type 0} (p : X → Bool) (xs : List X) → list_all p xs ≡ true → Each (λ x. p x ≡ true) xs
+pub each_true : {X : Type 0} (p : X → Bool) (xs : List X) → list_all p xs ≡ true → Each (λ x. p x ≡ true) xs
 each_true p [] h = tt
 each_true p (x ∷ xs) h = let both = and_parts (p x) (list_all p xs) h in (both.0, each_true p xs both.1)
 

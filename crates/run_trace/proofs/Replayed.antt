@@ -159,7 +159,8 @@ read_in_memory ram t h = elim (cases_Bool (same_kind t.kind Snoop)) [
     by_snoop true e = refl
     by_snoop false e = sym e
 
-all_at : {X : Type 0} (p : X → Bool) (xs ys : List X) (x : X) → list_all p (xs ++ x ∷ ys) ≡ true → p x ≡ true
+-- what holds of all holds of one of them
+pub all_at : {X : Type 0} (p : X → Bool) (xs ys : List X) (x : X) → list_all p (xs ++ x ∷ ys) ≡ true → p x ≡ true
 all_at p [] ys x h = (and_parts (p x) _ h).0
 all_at p (z ∷ xs) ys x h = all_at p xs ys x (and_parts (p z) _ h).1
 
@@ -262,16 +263,19 @@ module _ (setup : Setup) (few : setup.config.cores ≤ 8) (records : List CoreRe
 
     -- ---- a turn of a core
 
+    -- as the record of its core says
+    pub own_right : (kept : CoreRecord) → slice_get records t.master ≡ Some kept → IsRightTurn (ground_at t.master kept) t (up_to (ground_at t.master kept) t (course (ground_at t.master kept) pre))
+    own_right kept found =
+        let g = ground_at t.master kept in
+        subst (λ (ts : List Transfer). IsRightTurn g t (up_to g t (course g ts))) before
+        (subst (λ found. IfSome found (λ (u : Transfer). g.core ≡ u.master → IsRightTurn g u (before_turn g transfers (length pre) u))) at_place
+        ((record_ok t.master kept found).turns (length pre) within) refl)
+
     by_core : (kept : CoreRecord) → slice_get records t.master ≡ Some kept → (t.master == scrubber) ≡ false → IsRight setup grounds named pre t
-    by_core kept found other = ByCore (ground_at t.master kept) other (ground_found t.master kept found) right name
+    by_core kept found other = ByCore (ground_at t.master kept) other (ground_found t.master kept found) (own_right kept found) name
       where
         g : Ground
         g = ground_at t.master kept
-
-        right : IsRightTurn g t (up_to g t (course g pre))
-        right = subst (λ (ts : List Transfer). IsRightTurn g t (up_to g t (course g ts))) before
-            (subst (λ found. IfSome found (λ (u : Transfer). g.core ≡ u.master → IsRightTurn g u (before_turn g transfers (length pre) u))) at_place
-            ((record_ok t.master kept found).turns (length pre) within) refl)
 
         name : IsNamed setup grounds named pre (name_of g t (bad_wanted (up_to g t (course g pre)).run.state.ctl.pc (next_effect g (up_to g t (course g pre))) t))
         name addr =

@@ -61,7 +61,7 @@ each_core_op P (o ∷ os) h = ((h o.core).0 (eq-eqb o.core o.core refl), each_co
 
 -- ---- masters
 
-entry_by_core : (cores master : ℕ) (kind : TurnKind) → makes_entry kind ≡ true → HasMaster cores master kind → master < cores
+pub entry_by_core : (cores master : ℕ) (kind : TurnKind) → makes_entry kind ≡ true → HasMaster cores master kind → master < cores
 entry_by_core cores master Fetch e h = absurd cc
 entry_by_core cores master Load e h = absurd cc
 entry_by_core cores master Store e h = h

@@ -1,4 +1,5 @@
 ghost use Rattle.std.specs.Prelude.{◌≡◌, ◌<◌, ◌^◌, IfOk};
+ghost use Rattle.lf_model.specs.Ledger.Rule.{KeepsLedger};
 ghost use Rattle.lf_model.specs.Promise.Headline.{Headline};
 ghost use Rattle.lf_model.specs.Promise.Regular.{IsRegular};
 ghost use Rattle.run_trace.specs.Gathered.{gathered, IsGatherable};
@@ -64,6 +65,7 @@ pub fn gather(
     ensures gathered { IfOk result (λ trace. trace ≡ gathered s.now cores bus watch) }
     ensures regular { IfOk result IsRegular }
     ensures headline { IfOk result (Headline s.now) }
+    ensures ledger { IfOk result (KeepsLedger s.now) }
 {
     assembled(alloc, s, cores, bus, watch)
 }
