@@ -1,8 +1,8 @@
 -- The account of the trace that is gathered, by the run of its masters, is what it reports: steps, cores, transfers, fates, and what
 -- stands at the end.
-use Rattle.std.proofs.Common.{◌≡◌, ◌∙◌, ◌+◌, ◌<◌, ◌==◌, ◌++◌, ℕ, suc, Bool, true, false, List, [], ◌∷◌, length, filter, fold, map, count_by, slice_get, Option, Some, None, is_none, IfSome, refl, ap, sym, subst, inl, inr, arith, add-one}
+use Rattle.std.proofs.Common.{◌≡◌, ◌∙◌, ◌+◌, ◌==◌, ◌++◌, ℕ, Bool, true, false, List, [], ◌∷◌, length, filter, fold, map, count_by, slice_get, Option, Some, None, IfSome, refl, ap, sym, subst, inl, inr, arith, add-one}
 use Rattle.std.proofs.lemmas.Bool.{cases_Bool}
-use Rattle.std.proofs.lemmas.List.{append_assoc, append-nil, length-map}
+use Rattle.std.proofs.lemmas.List.{append_assoc, append-nil}
 use Rattle.std.proofs.lemmas.List.Sums.{length-filter}
 use Rattle.std.proofs.lemmas.Option.{slice_get-map}
 use Rattle.std.proofs.lemmas.Simd.{map-map}
@@ -10,7 +10,7 @@ use Rattle.std.specs.List.{enumerate_from}
 use Rattle.std.specs.Option.{option_map}
 use Rattle.ahb_bus.specs.declared.record.BusRecord.{BusRecord}
 use Rattle.lf_model.proofs.ReplayLemmas.{made_after}
-use Rattle.lf_model.specs.Bus.Replay.{Made, Replay, replay_start, replay_finished}
+use Rattle.lf_model.specs.Bus.Replay.{Replay, replay_start}
 use Rattle.lf_model.specs.Bus.Status.{AhbStatus, status_after}
 use Rattle.lf_model.specs.Bus.Walk.{Walk, scrubber, walk_start, walked, walk_by}
 use Rattle.lf_model.specs.Bus.Words.{Word, word_history}
@@ -37,7 +37,7 @@ use Rattle.run_trace.proofs.Composing.{IsRight, IsAnswered, Along, after, along_
 use Rattle.run_trace.proofs.Headlines.{missing_if}
 use Rattle.run_trace.proofs.Replayed.{ground_at, along, answered_here, right_here, walked_turns}
 use Rattle.run_trace.proofs.Stepping.{count_blind, steps_without}
-use Rattle.run_trace.proofs.TraceReplay.{trace, status, at_end, kept_grounds, numbered_map, own_without, own_count, record_kept, ops_kept, replay_is, words_at_end}
+use Rattle.run_trace.proofs.TraceReplay.{trace, status, kept_grounds, numbered_map, own_without, own_count, record_kept, ops_kept, replay_is, words_at_end}
 
 -- ---- what each transfer adds, from the first to the last
 
@@ -86,8 +86,8 @@ both : {X : Type 0} {x y : X} {xs ys : List X} → x ≡ y → xs ≡ ys → (x 
 both p q = rw (p, q) refl
 
 module _ (setup : Setup) (records : List CoreRecord) (bus : BusRecord) (watch : List Word2) (ok : IsGatherable setup records bus watch) where
-  abbrev told : Trace
-  told = trace setup records bus watch ok
+  abbrev reported : Trace
+  reported = trace setup records bus watch ok
 
   abbrev at : AhbStatus
   at = status setup records bus watch ok
@@ -109,39 +109,39 @@ module _ (setup : Setup) (records : List CoreRecord) (bus : BusRecord) (watch : 
 
   -- ---- steps
 
-  step_at : (c : ℕ) (found : Option CoreRecord) → slice_get records c ≡ found → IfSome (option_map result_kept found) (λ r. HasSteps setup r (own_transfers c told.transfers))
+  step_at : (c : ℕ) (found : Option CoreRecord) → slice_get records c ≡ found → IfSome (option_map result_kept found) (λ r. HasSteps setup r (own_transfers c reported.transfers))
   step_at c None e = tt
   step_at c (Some kept) e = subst (HasSteps setup kept.result) (sym (own_without c bus.transfers))
       (steps_without setup kept.result (own_transfers c bus.transfers) (record_kept setup records bus watch ok c kept e).steps)
 
-  pub steps_right : FailsNowhere setup.config.cores (StepsAt setup told)
-  steps_right c within = subst (λ o. IfSome o (λ (r : CoreResult). HasSteps setup r (own_transfers c told.transfers))) (sym (slice_get-map result_kept records c)) (step_at c (slice_get records c) refl)
+  pub steps_right : FailsNowhere setup.config.cores (StepsAt setup reported)
+  steps_right c within = subst (λ o. IfSome o (λ (r : CoreResult). HasSteps setup r (own_transfers c reported.transfers))) (sym (slice_get-map result_kept records c)) (step_at c (slice_get records c) refl)
 
   -- ---- cores
 
   abbrev accounted : ℕ → CoreRecord → CoreAccount
   accounted c kept = let g = ground_at setup ok.limits.few_cores records bus.log.entries bus.transfers at bus.fates watch ok.right c kept in core_by_course g (finished g (course g bus.transfers))
 
-  account_at : (c : ℕ) (found : Option CoreRecord) → slice_get records c ≡ found → IfSome found (λ kept. core_reported told c kept.result ≡ accounted c kept)
+  account_at : (c : ℕ) (found : Option CoreRecord) → slice_get records c ≡ found → IfSome found (λ kept. core_reported reported c kept.result ≡ accounted c kept)
   account_at c None e = tt
   account_at c (Some kept) e =
-      ap (λ (os : List Op). core_as_reported c kept.result os told.transfers) (ops_kept setup records bus watch ok c kept e)
+      ap (λ (os : List Op). core_as_reported c kept.result os reported.transfers) (ops_kept setup records bus watch ok c kept e)
       ∙ (same_turns (own_count c bus.transfers) ∙ sym (record_kept setup records bus watch ok c kept e).account)
     where
-      same_turns : length (own_transfers c told.transfers) ≡ length (own_transfers c bus.transfers) → core_as_reported c kept.result kept.ops told.transfers ≡ core_as_reported c kept.result kept.ops bus.transfers
+      same_turns : length (own_transfers c reported.transfers) ≡ length (own_transfers c bus.transfers) → core_as_reported c kept.result kept.ops reported.transfers ≡ core_as_reported c kept.result kept.ops bus.transfers
       same_turns same = rw same refl
 
-  pub cores_right : map core_account (replay_of setup told).cores ≡ map_numbered (core_reported told) told.cores
+  pub cores_right : map core_account (replay_of setup reported).cores ≡ map_numbered (core_reported reported) reported.cores
   cores_right =
       ap (λ (r : Replay). map core_account r.cores) (replay_is setup records bus watch ok)
       ∙ (cores_accounted setup gs named bus.transfers all_along
       ∙ (map-map (λ (g : Ground). core_by_course g (finished g (course g bus.transfers)))
       (λ (x : ℕ × CoreRecord). ground_at setup ok.limits.few_cores records bus.log.entries bus.transfers at bus.fates watch ok.right x.0 x.1) (enumerate_from 0 records)
-      ∙ sym (numbered_map (core_reported told) result_kept accounted records (λ c. account_at c (slice_get records c) refl))))
+      ∙ sym (numbered_map (core_reported reported) result_kept accounted records (λ c. account_at c (slice_get records c) refl))))
 
   -- ---- transfers
 
-  pub transfers_right : map turn_made (replay_of setup told).made ≡ map turn_reported told.transfers
+  pub transfers_right : map turn_made (replay_of setup reported).made ≡ map turn_reported reported.transfers
   transfers_right =
       ap (λ (r : Replay). map turn_made r.made) (replay_is setup records bus watch ok)
       ∙ (holds_after setup gs named (λ ts. map turn_made (after setup gs named ts).made ≡ map (account_reported setup gs named) ts) (turns_right setup gs named) bus.transfers each_right refl
@@ -149,7 +149,7 @@ module _ (setup : Setup) (records : List CoreRecord) (bus : BusRecord) (watch : 
 
   -- ---- the end
 
-  made_kept : map transfer_made (replay_of setup told).made ≡ bus.transfers
+  made_kept : map transfer_made (replay_of setup reported).made ≡ bus.transfers
   made_kept = ap (λ (r : Replay). map transfer_made r.made) (replay_is setup records bus watch ok) ∙ (made_after setup (replay_start setup gs) bus.transfers ∙ all_along.made)
 
   abbrev words_left : List Word
@@ -159,10 +159,10 @@ module _ (setup : Setup) (records : List CoreRecord) (bus : BusRecord) (watch : 
   missing [] = refl
   missing (addr ∷ addrs) = both (sym (missing_if (is_bad_word (word_history words_left addr)) (number_left setup.image bus.log.entries addr))) (missing addrs)
 
-  scrubs_counted : count_by is_scrubbers told.transfers ≡ setup.config.scrub_turns
+  scrubs_counted : count_by is_scrubbers reported.transfers ≡ setup.config.scrub_turns
   scrubs_counted = omega (arith, count_blind is_scrubbers (λ t. refl) bus.transfers, length-filter is_scrubbers bus.transfers, walked_by setup.config.scrub (walk_start setup.config.scrub) bus.transfers, ok.right.walk.all)
 
-  pub final_right : final_by_replay setup (replay_of setup told) ≡ final_reported told
+  pub final_right : final_by_replay setup (replay_of setup reported) ≡ final_reported reported
   final_right = three
       (ap status_after made_kept ∙ sym ok.right.bus.status_is)
       (ap (λ ws. map (is_bad_at ws) setup.config.watch) (words_at_end setup records bus watch ok) ∙ (missing setup.config.watch ∙ ap (map value_missing) (sym ok.right.watch_is)))

@@ -1,9 +1,8 @@
 -- The walk along an order: how many operations are in the log, and which loads and lost stores came before, at each of its places.
-use Rattle.std.proofs.Common.{◌≡◌, ◌∙◌, ◌+◌, ◌<◌, ◌≤◌, ◌==◌, ◌&&◌, ◌||◌, ◌++◌, ℕ, zero, suc, Bool, true, false, nat_lt, nat_le, List, [], ◌∷◌, length, filter, fold, ◌⊎◌, refl, ap, sym, subst, inl, inr, arith, add-one}
-use Rattle.std.proofs.lemmas.Bool.{cases_Bool, cases_lt, cases_eq, eq-eqb, ne_eqb, eqb-true, lt-ltb, le-leb}
+use Rattle.std.proofs.Common.{◌≡◌, ◌∙◌, ◌+◌, ◌≤◌, ◌==◌, ◌&&◌, ◌||◌, ◌++◌, ℕ, Bool, true, false, nat_lt, nat_le, List, [], ◌∷◌, length, filter, fold, refl, ap, sym, inl, inr, arith, add-one}
+use Rattle.std.proofs.lemmas.Bool.{cases_eq, eq-eqb, lt-ltb, le-leb}
 use Rattle.std.proofs.lemmas.List.Sums.{fold-append}
 use Rattle.std.specs.List.{AllByRecursion as Each}
-use Rattle.std.specs.List.{list_all}
 use Rattle.lf_model.specs.Ledger.OrderAccount.{OrderAccount, Before, after_kind, along, comes_before}
 use Rattle.lf_model.specs.Operation.{kind_enters, enters, kind_is_lost, is_lost}
 use Rattle.lf_model.specs.declared.bus.OpKind.{OpKind}

@@ -1,13 +1,13 @@
 -- What the course of a core keeps over the transfers: what it has seen of the log, its completions, its drains and its error traps.
-use Rattle.std.proofs.Common.{◌≡◌, ◌∙◌, ◌+◌, ◌-◌, ◌≤◌, ◌<◌, ◌==◌, ◌&&◌, ◌||◌, ◌++◌, ℕ, zero, suc, Bool, true, false, not, nat_lt, List, [], ◌∷◌, length, filter, fold, find, map, slice_get, slice_index, Option, Some, None, IfSome, IsSomeAnd, is_some, refl, ap, sym, subst, inl, inr, arith, add-one, if◌then◌else◌}
-use Rattle.std.proofs.lemmas.Bool.{cases_Bool, and_parts}
+use Rattle.std.proofs.Common.{◌≡◌, ◌∙◌, ◌+◌, ◌-◌, ◌≤◌, ◌==◌, ◌&&◌, ◌||◌, ◌++◌, ℕ, zero, suc, Bool, true, false, not, List, [], ◌∷◌, length, filter, fold, find, slice_get, slice_index, Option, Some, None, IfSome, IsSomeAnd, is_some, refl, ap, sym, subst, inl, inr, arith, add-one, if◌then◌else◌}
+use Rattle.std.proofs.lemmas.Bool.{cases_Bool}
 use Rattle.std.proofs.lemmas.List.{append-nil, append_assoc, length-append}
 use Rattle.std.proofs.lemmas.List.Elements.{filter-append}
 use Rattle.std.proofs.lemmas.List.Sums.{fold-append}
 use Rattle.std.proofs.lemmas.Option.{same_Some}
 use Rattle.std.specs.Int.{from_bool}
 use Rattle.std.specs.List.{AllByRecursion as Each}
-use Rattle.std.specs.List.{list_any, range_with_len}
+use Rattle.std.specs.List.{list_any}
 use Rattle.lf_model.proofs.EachLemmas.{each_append, each_weaker}
 use Rattle.lf_model.proofs.CourseLemmas.{observe_own}
 use Rattle.lf_model.specs.Course.Arrays.{Arrays, begun}
@@ -23,7 +23,7 @@ use Rattle.lf_model.specs.Course.Turned.{bad_wanted, retires_by, turn_wants, tur
 use Rattle.lf_model.specs.Course.Turn.{is_past_steps}
 use Rattle.lf_model.specs.Effect.{Access, Effect}
 use Rattle.lf_model.specs.Names.{same_kind}
-use Rattle.lf_model.specs.Run.{Run, operation, with_access, answer_to, effect_at_pc, answered}
+use Rattle.lf_model.specs.Run.{operation, with_access, answer_to, effect_at_pc, answered}
 use Rattle.lf_model.specs.declared.bus.Entry.{Entry}
 use Rattle.lf_model.specs.declared.bus.Transfer.{Transfer}
 use Rattle.lf_model.specs.declared.bus.TurnKind.{TurnKind}
@@ -248,8 +248,14 @@ module _ (g : Ground) where
         drained = omega (arith, h.drained, count_one is_drain pre t, own_drain t own);
         failed = subst (λ n. k.drained + from_bool (same_kind t.kind Store) ≤ length (filter is_entered_drain (pre ++ t ∷ [])) + n)
             (sym (ap (λ (xs : List ErrorTrap). length xs) (filter-append is_turns k.errors (turn_errors t steps (k.turns + 1) bad)) ∙ length-append (filter is_turns k.errors) (filter is_turns (turn_errors t steps (k.turns + 1) bad))))
-            (omega (arith, h.failed, count_one is_entered_drain pre t, own_entered t own, turn_count t steps (k.turns + 1) bad,
-            fails_or_enters t bad (same_kind t.kind Store) (enters_log t) (λ s not. wants_bad t.kind pc e t s (sound.fails s not))));
+            (omega (
+              arith,
+              h.failed,
+              count_one is_entered_drain pre t,
+              own_entered t own,
+              turn_count t steps (k.turns + 1) bad,
+              fails_or_enters t bad (same_kind t.kind Store) (enters_log t) (λ s not. wants_bad t.kind pc e t s (sound.fails s not)),
+            ));
         numbers = each_append (λ (x : ErrorTrap). IfSome x.turns (λ n. n ≤ k.turns + 1)) k.errors (turn_errors t steps (k.turns + 1) bad)
             (each_weaker (λ (x : ErrorTrap). IfSome x.turns (λ n. n ≤ k.turns)) (λ (x : ErrorTrap). IfSome x.turns (λ n. n ≤ k.turns + 1)) k.errors
             (λ x. numbers_more k.turns (k.turns + 1) x.turns (omega arith)) h.numbers)

@@ -1,20 +1,19 @@
 -- The entries that the run of all masters makes are those of the log.
-use Rattle.std.proofs.Common.{◌≡◌, ◌∙◌, ◌+◌, ◌-◌, ◌<◌, ◌≤◌, ◌==◌, ◌&&◌, ◌||◌, ◌++◌, ℕ, zero, suc, Bool, true, false, not, List, [], ◌∷◌, length, take, drop, filter, fold, map, slice_get, slice_index, Option, Some, None, IfSome, IsSomeAnd, refl, ap, sym, subst, inl, inr, arith, add-one, nat_lt, if◌then◌else◌}
+use Rattle.std.proofs.Common.{◌≡◌, ◌∙◌, ◌+◌, ◌-◌, ◌<◌, ◌≤◌, ◌==◌, ◌&&◌, ◌++◌, ℕ, Bool, true, false, not, List, [], ◌∷◌, length, take, drop, filter, map, slice_get, slice_index, Option, Some, None, IfSome, IsSomeAnd, refl, ap, sym, subst, inl, inr, arith, add-one, nat_lt, if◌then◌else◌}
 use Rattle.std.proofs.lemmas.Bool.{cases_Bool, cases_lt, and_parts, eq-eqb, ne_eqb, eqb-false}
 use Rattle.std.proofs.lemmas.List.{append_assoc, append-nil, length-append, length-map, map-append, take-map, take_at, take_all, take_more}
 use Rattle.std.proofs.lemmas.List.Elements.{filter-append, filter_map-append}
 use Rattle.std.proofs.lemmas.List.Sums.{fold-append}
 use Rattle.std.proofs.lemmas.Option.{slice_get-map, slice_get_within, same_Some, get_or_from_slice_get}
-use Rattle.std.proofs.lemmas.Simd.{map-map}
 use Rattle.std.specs.Int.{from_bool}
 use Rattle.std.specs.List.{AllByRecursion as Each}
-use Rattle.std.specs.List.{filter_map, list_all, list_any, zip}
+use Rattle.std.specs.List.{filter_map, list_all, list_any}
 use Rattle.std.specs.Option.{option_map, option_to_list}
 use Rattle.ahb_bus.specs.declared.record.BusRecord.{BusRecord}
 use Rattle.lf_model.proofs.CourseLemmas.{observe_own}
-use Rattle.lf_model.proofs.EachLemmas.{each_first, each_second, each_weaker, filter_map_same, filter_same}
+use Rattle.lf_model.proofs.EachLemmas.{each_second, each_weaker, filter_map_same, filter_same}
 use Rattle.lf_model.proofs.SplitLemmas.{split_at}
-use Rattle.lf_model.specs.Bus.Replay.{Core, LogEntry, Made, Replay, entry_at, made_by_none, made_by_walk, made_turn, replay_start, replay_turn, replay_finished}
+use Rattle.lf_model.specs.Bus.Replay.{Core, LogEntry, Made, Replay, entry_at, made_by_none, made_by_walk, made_turn, replay_start, replay_turn}
 use Rattle.lf_model.specs.Bus.Status.{AhbStatus}
 use Rattle.lf_model.proofs.ReplayLemmas.{core_after_all}
 use Rattle.lf_model.specs.Bus.Walk.{scrubber, next_transfer}
@@ -36,24 +35,20 @@ use Rattle.lf_model.specs.Promise.RegularTransfer.{is_regular_on_bus}
 use Rattle.lf_model.specs.Records.AllRecords.{words_named_by_all}
 use Rattle.lf_model.specs.Records.BusRecord.{Placed, is_successful, entry_placed, kind_entered, transfer_placed, is_in_memory}
 use Rattle.lf_model.specs.Records.CoreRecord.{RecordOk, completions_reported}
-use Rattle.lf_model.specs.Records.OwnTurns.{IsRightTurn, next_effect}
+use Rattle.lf_model.specs.Records.OwnTurns.{next_effect}
 use Rattle.lf_model.specs.Records.SeenOrder.{is_entry_of}
-use Rattle.lf_model.specs.Start.{initial_byte}
 use Rattle.lf_model.specs.TransferLines.{makes_entry}
 use Rattle.lf_model.specs.declared.bus.Entry.{Entry}
-use Rattle.lf_model.specs.declared.bus.OpKind.{OpKind}
 use Rattle.lf_model.specs.declared.bus.Transfer.{Transfer}
 use Rattle.lf_model.specs.declared.bus.TurnKind.{TurnKind}
 use Rattle.lf_model.specs.declared.bus.TurnKind.TheVariants.{Fetch, Load, Store, Atomic, Snoop, Look, Fix}
 use Rattle.lf_model.specs.declared.record.CoreRecord.{CoreRecord}
 use Rattle.lf_model.specs.declared.setup.Setup.{Setup}
 use Rattle.lf_model.specs.declared.trace.Op.{Op}
-use Rattle.lf_model.specs.declared.trace.Trace.{Trace}
 use Rattle.lf_model.specs.declared.trace.Word2.{Word2}
 use Rattle.run_trace.specs.Gathered.{IsGatherable}
 use Rattle.run_trace.proofs.Accounts.{each_right}
-use Rattle.run_trace.proofs.Composing.{IsRight, IsAnswered, Along, after, along_all, along_start, along_cores, transfer_made_right}
-use Rattle.run_trace.proofs.Composing.IsRight.{ByScrubber, ByCore}
+use Rattle.run_trace.proofs.Composing.{Along, after, along_all, along_start, along_cores, transfer_made_right}
 use Rattle.run_trace.proofs.CourseKept.{count_one, IsFailedAt, is_turns, is_own, is_drain, is_entered_drain, Keeps, IsSound, Grown, keeps_course, keeps_local_steps, grown_through, grown_own_turn, grown_finished}
 use Rattle.run_trace.proofs.EntryNumbers.{get_in_first, filter_here, count_within, store_entered, store_made, store_stores, none_yet, failed_stop, seen_of, seen_reported, index_most, index_in_first, index_at_seam, atomic_is}
 use Rattle.run_trace.proofs.Cores.{some_at}
@@ -271,13 +266,13 @@ module _ (setup : Setup) (records : List CoreRecord) (bus : BusRecord) (watch : 
       store_is store =
           let here : own_store entry_here.entry ≡ true = rw (ap (λ (p : Placed). p.kind) entry_here.placed, store_entered t.kind, store, eq-eqb entry_here.entry.core t.master core_is) refl in
           let listed : slice_get (filter own_store log) k.drained ≡ Some entry_here.entry =
-              ap (λ (es : List Entry). slice_get (filter own_store es) k.drained) log_parts
-              ∙ (ap (λ (es : List Entry). slice_get es k.drained) (filter_here own_store (take n log) entry_here.entry (drop (n + 1) log) here)
-              ∙ seam (filter own_store (take n log)) entry_here.entry (filter own_store (drop (n + 1) log)) k.drained (sym front_count)) in
+          ap (λ (es : List Entry). slice_get (filter own_store es) k.drained) log_parts
+          ∙ (ap (λ (es : List Entry). slice_get es k.drained) (filter_here own_store (take n log) entry_here.entry (drop (n + 1) log) here)
+          ∙ seam (filter own_store (take n log)) entry_here.entry (filter own_store (drop (n + 1) log)) k.drained (sym front_count)) in
           let given : slice_get (map made (filter is_store kept.ops)) k.drained ≡ Some entry_here.entry =
-              ap (λ (es : List Entry). slice_get es k.drained) (ap (map made) stores_split ∙ map-append made (filter is_store (filter enters kept.ops)) (filter is_store (filter is_lost kept.ops)))
-              ∙ get_in_first (map made (filter is_store (filter enters kept.ops))) (map made (filter is_store (filter is_lost kept.ops))) k.drained entry_here.entry
-              (ap (λ (es : List Entry). slice_get es k.drained) (sym own_stores) ∙ listed) in
+          ap (λ (es : List Entry). slice_get es k.drained) (ap (map made) stores_split ∙ map-append made (filter is_store (filter enters kept.ops)) (filter is_store (filter is_lost kept.ops)))
+          ∙ get_in_first (map made (filter is_store (filter enters kept.ops))) (map made (filter is_store (filter is_lost kept.ops))) k.drained entry_here.entry
+          (ap (λ (es : List Entry). slice_get es k.drained) (sym own_stores) ∙ listed) in
           ap (target_of g k (next_effect g k)) (store_kind t.kind store) ∙ ap (option_map store_target) given
 
       -- ---- an atomic
@@ -342,22 +337,22 @@ module _ (setup : Setup) (records : List CoreRecord) (bus : BusRecord) (watch : 
       atomic_number a kind is =
           let parts = seen_parts a kind is in
           let count : length kept.seen ≡ m + (1 + length (map seen_of to_end.later)) =
-              ap (λ (ns : List ℕ). length ns) parts ∙ (length-append (map seen_of k.completions) ((n + 1) ∷ map seen_of to_end.later)
-              ∙ omega (arith, length-map k.completions seen_of, add-one (length (map seen_of to_end.later)))) in
+          ap (λ (ns : List ℕ). length ns) parts ∙ (length-append (map seen_of k.completions) ((n + 1) ∷ map seen_of to_end.later)
+          ∙ omega (arith, length-map k.completions seen_of, add-one (length (map seen_of to_end.later)))) in
           let here : slice_index kept.seen m ≡ n + 1 =
-              ap (λ (ns : List ℕ). slice_index ns m) parts ∙ index_at_seam (map seen_of k.completions) (n + 1) (map seen_of to_end.later) m (sym (length-map k.completions seen_of)) in
+          ap (λ (ns : List ℕ). slice_index ns m) parts ∙ index_at_seam (map seen_of k.completions) (n + 1) (map seen_of to_end.later) m (sym (length-map k.completions seen_of)) in
           let seen : Each (λ (x : Entry). x.core ≡ t.master → x.k ≤ m) (take (n + 1) log) =
-              subst (λ i. Each (λ (x : Entry). x.core ≡ t.master → x.k ≤ m) (take i log)) here (r.seen.earlier m (omega (arith, count, r.seen.one_each))) in
+          subst (λ i. Each (λ (x : Entry). x.core ≡ t.master → x.k ≤ m) (take i log)) here (r.seen.earlier m (omega (arith, count, r.seen.one_each))) in
           let low : entry_here.entry.k ≤ m = (each_second (λ (x : Entry). x.core ≡ t.master → x.k ≤ m) (take n log) (entry_here.entry ∷ [])
-              (subst (λ (es : List Entry). Each (λ (x : Entry). x.core ≡ t.master → x.k ≤ m) es) front_more seen)).0 core_is in
+          (subst (λ (es : List Entry). Each (λ (x : Entry). x.core ≡ t.master → x.k ≤ m) es) front_more seen)).0 core_is in
           elim (cases_lt entry_here.entry.k m) [
             | inr high ↦ omega (arith, low, high)
             | inl less ↦
                 let old : slice_index kept.seen entry_here.entry.k ≤ k.seen =
-                    subst (λ i. i ≤ k.seen)
-                    (sym (ap (λ (ns : List ℕ). slice_index ns entry_here.entry.k) parts
-                    ∙ index_in_first (map seen_of k.completions) ((n + 1) ∷ map seen_of to_end.later) entry_here.entry.k (omega (arith, less, length-map k.completions seen_of))))
-                    (index_most k.seen k.completions entry_here.entry.k keeps_here.seen_most less) in
+                subst (λ i. i ≤ k.seen)
+                (sym (ap (λ (ns : List ℕ). slice_index ns entry_here.entry.k) parts
+                ∙ index_in_first (map seen_of k.completions) ((n + 1) ∷ map seen_of to_end.later) entry_here.entry.k (omega (arith, less, length-map k.completions seen_of))))
+                (index_most k.seen k.completions entry_here.entry.k keeps_here.seen_most less) in
                 absurd (omega (arith, old, now_seen, keeps_here.seen))
           ]
         where

@@ -1,57 +1,33 @@
 -- A transfer that enters the log is that of the entry at its place there: of the same core, and with the number of the operation that
 -- the core's course gives it.
-use Rattle.std.proofs.Common.{◌≡◌, ◌∙◌, ◌+◌, ◌-◌, ◌<◌, ◌≤◌, ◌==◌, ◌&&◌, ◌||◌, ◌++◌, ℕ, zero, suc, Bool, true, false, not, List, [], ◌∷◌, length, take, drop, filter, map, slice_get, slice_index, Option, Some, None, IfSome, IsSomeAnd, refl, ap, sym, subst, inl, inr, arith, add-one}
-use Rattle.std.proofs.lemmas.Bool.{cases_Bool, cases_eq, and_parts, eq-eqb, ne_eqb, eqb-true, eqb-false}
-use Rattle.std.proofs.lemmas.List.{append_assoc, length-append, length-map, map-append, take-map, take_at, get_or_append_left, get_or_at}
+use Rattle.std.proofs.Common.{◌≡◌, ◌∙◌, ◌<◌, ◌≤◌, ◌==◌, ◌&&◌, ◌||◌, ◌++◌, ℕ, zero, suc, Bool, true, false, List, [], ◌∷◌, length, drop, filter, map, slice_get, slice_index, Option, Some, None, IfSome, refl, ap, sym, subst, inl, inr, arith, add-one}
+use Rattle.std.proofs.lemmas.Bool.{cases_eq, and_parts, ne_eqb, eqb-true}
+use Rattle.std.proofs.lemmas.List.{get_or_append_left}
 use Rattle.std.proofs.lemmas.List.Elements.{filter-append}
-use Rattle.std.proofs.lemmas.Option.{slice_get-map, slice_get_within, same_Some}
-use Rattle.std.proofs.lemmas.Simd.{map-map}
+use Rattle.std.proofs.lemmas.Option.{same_Some}
 use Rattle.std.specs.List.{AllByRecursion as Each}
-use Rattle.std.specs.List.{list_all, list_any, zip}
-use Rattle.std.specs.Option.{is_some, option_map}
-use Rattle.ahb_bus.specs.declared.record.BusRecord.{BusRecord}
-use Rattle.lf_model.proofs.CourseLemmas.{observe_own}
-use Rattle.lf_model.proofs.EachLemmas.{each_first, each_second, each_weaker, filter_map_same, filter_same}
-use Rattle.lf_model.proofs.SplitLemmas.{split_at}
-use Rattle.lf_model.specs.Bus.Replay.{LogEntry, entry_at}
-use Rattle.lf_model.specs.Bus.Status.{AhbStatus}
-use Rattle.lf_model.specs.Course.Core.{Ground, is_store_kind, is_store, is_stop_at, is_register_stop}
-use Rattle.lf_model.specs.Course.Course.{up_to, observe, course, finished}
-use Rattle.lf_model.specs.Course.LocalStep.{local_steps}
-use Rattle.lf_model.specs.Course.Progress.{Completion, ErrorTrap, Progress}
-use Rattle.lf_model.specs.Course.Syndromes.{is_bad_syndrome, syndromes_of, has_address, enters_log}
-use Rattle.lf_model.specs.Course.Turn.{Target, store_target, atomic_target, target_by, target_of, addressed}
-use Rattle.lf_model.specs.Course.Turned.{retires_by, own_turn}
-use Rattle.lf_model.specs.Effect.{AccessKind, Access, Effect}
-use Rattle.lf_model.specs.Ledger.CoreAccount.{CoreAccount, errors_reported, turns_reported}
-use Rattle.lf_model.specs.Ledger.Steps.{own_transfers}
+use Rattle.std.specs.List.{zip}
+use Rattle.std.specs.Option.{is_some}
+use Rattle.lf_model.specs.Course.Core.{is_store_kind, is_store, is_stop_at, is_register_stop}
+use Rattle.lf_model.specs.Course.Progress.{Completion, ErrorTrap}
+use Rattle.lf_model.specs.Course.Turn.{Target, atomic_target, target_by}
+use Rattle.lf_model.specs.Effect.{AccessKind, Access}
+use Rattle.lf_model.specs.Ledger.CoreAccount.{errors_reported, turns_reported}
 use Rattle.lf_model.specs.Names.{same_kind}
-use Rattle.lf_model.specs.Operation.{kind_reads, enters, stores, is_lost, made}
-use Rattle.lf_model.specs.Records.BusRecord.{Placed, is_successful, entry_placed, kind_entered, transfer_placed, is_in_memory}
-use Rattle.lf_model.specs.Records.CoreRecord.{RecordOk, completion_reported, completions_reported}
-use Rattle.lf_model.specs.Records.OwnTurns.{IsRightTurn, next_effect}
-use Rattle.lf_model.specs.Records.SeenOrder.{is_entry_of}
-use Rattle.lf_model.specs.Traps.{instruction_access_exception, data_access_exception}
-use Rattle.lf_model.specs.TransferLines.{makes_entry}
-use Rattle.lf_model.specs.declared.bus.Entry.{Entry}
+use Rattle.lf_model.specs.Operation.{stores, made}
+use Rattle.lf_model.specs.Records.BusRecord.{kind_entered}
+use Rattle.lf_model.specs.Records.CoreRecord.{completion_reported}
 use Rattle.lf_model.specs.declared.bus.OpKind.{OpKind}
 use Rattle.lf_model.specs.declared.bus.OpKind.TheVariants as ops
 use Rattle.lf_model.specs.declared.bus.Transfer.{Transfer}
 use Rattle.lf_model.specs.declared.bus.TurnKind.{TurnKind}
 use Rattle.lf_model.specs.declared.bus.TurnKind.TheVariants.{Fetch, Load, Store, Atomic, Snoop, Look, Fix}
-use Rattle.lf_model.specs.declared.record.CoreRecord.{CoreRecord}
-use Rattle.lf_model.specs.declared.setup.Setup.{Setup}
 use Rattle.lf_model.specs.declared.trace.CoreEnd.{CoreEnd}
 use Rattle.lf_model.specs.declared.trace.CoreEnd.TheVariants.{Halt, Stop, Limit}
 use Rattle.lf_model.specs.declared.trace.Op.{Op}
-use Rattle.run_trace.proofs.CourseKept.{IsFailedAt, is_turns, is_own, is_drain, is_entered_drain, Keeps, Grown}
-use Rattle.run_trace.proofs.Lists.{each_all, each_pass, filter_by, filter_filter}
-use Rattle.run_trace.proofs.NamedWords.{same_both_ways}
-use Rattle.run_trace.proofs.Numbers.{LostLast, stores_parts}
-use Rattle.run_trace.proofs.OrderAccounts.{entry_named}
-use Rattle.run_trace.proofs.Replayed.{seam}
+use Rattle.run_trace.proofs.CourseKept.{IsFailedAt, is_turns}
+use Rattle.run_trace.proofs.Lists.{filter_filter}
 use Rattle.run_trace.proofs.Shares.{fewer}
-use Rattle.run_trace.proofs.Sound.{enters_good}
 
 -- ---- lists
 

@@ -1,5 +1,5 @@
 -- The fates that the trace reports are those of the units' histories in the run of all masters.
-use Rattle.std.proofs.Common.{◌≡◌, ◌∙◌, ◌+◌, ◌==◌, ℕ, zero, suc, Bool, List, [], ◌∷◌, length, map, slice_get, slice_index_or, Option, Some, None, refl, ap, sym, subst, arith, add-one}
+use Rattle.std.proofs.Common.{◌≡◌, ◌∙◌, ◌+◌, ℕ, zero, suc, List, [], ◌∷◌, length, map, slice_get, slice_index_or, Option, Some, None, refl, ap, sym, subst, arith, add-one}
 use Rattle.std.proofs.lemmas.Bool.{eq-eqb}
 use Rattle.std.proofs.lemmas.Option.{same_Some}
 use Rattle.std.specs.List.{range_with_len, zip}
@@ -24,7 +24,7 @@ use Rattle.lf_model.specs.declared.setup.Setup.{Setup}
 use Rattle.lf_model.specs.declared.trace.Fate.{Fate}
 use Rattle.lf_model.specs.declared.trace.Fate.TheVariants.{Late}
 use Rattle.lf_model.specs.declared.trace.Word2.{Word2}
-use Rattle.run_trace.specs.Fates.{core_fate, fate_told, fates_told}
+use Rattle.run_trace.specs.Fates.{core_fate, fate_recorded, fates_recorded}
 use Rattle.run_trace.specs.Gathered.{IsGatherable}
 use Rattle.run_trace.proofs.TraceReplay.{trace, record_kept, course_kept, core_of, core_found, words_at_end}
 
@@ -43,7 +43,7 @@ module _ (of : ℕ × Flip → Fate) where
   fate_from n (x ∷ xs) (suc i) m flip e found = fate_from (n + 1) xs i m flip (omega (arith, e, add-one i)) found
 
   all_from : (records : List CoreRecord) (bus : List Fate) (n : ℕ) (xs : List Flip)
-      → ((i m : ℕ) (flip : Flip) → m ≡ n + i → slice_get xs i ≡ Some flip → of (m, flip) ≡ fate_told records bus m flip) → from_number n xs ≡ fates_told records bus n xs
+      → ((i m : ℕ) (flip : Flip) → m ≡ n + i → slice_get xs i ≡ Some flip → of (m, flip) ≡ fate_recorded records bus m flip) → from_number n xs ≡ fates_recorded records bus n xs
   all_from records bus n [] each = refl
   all_from records bus n (x ∷ xs) each =
       rw (each 0 n x (omega arith) refl, all_from records bus (n + 1) xs (λ i m flip e found. each (suc i) m flip (omega (arith, e, add-one i)) found)) refl
@@ -87,7 +87,7 @@ module _ (setup : Setup) (records : List CoreRecord) (bus : BusRecord) (watch : 
           ∙ (ap (fate_of (budget_of flip) i) (by [] (of_core_alone core arrays))
           ∙ rw (eq-eqb core core refl) refl)))
 
-  one_flip : (i : ℕ) (flip : Flip) → slice_get setup.flips i ≡ Some flip → fate_by words_left (arrays_at cores) (i, flip) ≡ fate_told records bus.fates i flip
+  one_flip : (i : ℕ) (flip : Flip) → slice_get setup.flips i ≡ Some flip → fate_by words_left (arrays_at cores) (i, flip) ≡ fate_recorded records bus.fates i flip
   one_flip i (Mem turn addr bit) at = sym (
       ap (λ (fs : List Fate). slice_index_or fs i Late) ok.right.bus.fates_are
       ∙ fate_from (fate_by words_left no_arrays) 0 setup.flips i i (Mem turn addr bit) (omega arith) at)
@@ -97,11 +97,11 @@ module _ (setup : Setup) (records : List CoreRecord) (bus : BusRecord) (watch : 
   one_flip i (Line core step fetch way set byte bit) at =
       core_flip i core (Line core step fetch way set byte bit) (λ a. history_at byte (slot_in way set (cache_in fetch a)).line_histories) at (λ words of. refl)
 
-  pub fates_kept : flip_fates setup.flips (replay_of setup (trace setup records bus watch ok)).words (arrays_at cores) ≡ fates_told records bus.fates 0 setup.flips
+  pub fates_kept : flip_fates setup.flips (replay_of setup (trace setup records bus watch ok)).words (arrays_at cores) ≡ fates_recorded records bus.fates 0 setup.flips
   fates_kept =
       ap (λ ws. flip_fates setup.flips ws (arrays_at cores)) (words_at_end setup records bus watch ok)
       ∙ all_from (fate_by words_left (arrays_at cores)) records bus.fates 0 setup.flips (λ i m flip e at.
-      subst (λ j. fate_by words_left (arrays_at cores) (j, flip) ≡ fate_told records bus.fates j flip) (sym (plain i m e)) (one_flip i flip at))
+      subst (λ j. fate_by words_left (arrays_at cores) (j, flip) ≡ fate_recorded records bus.fates j flip) (sym (plain i m e)) (one_flip i flip at))
     where
       plain : (i m : ℕ) → m ≡ 0 + i → m ≡ i
       plain i m e = omega (arith, e)

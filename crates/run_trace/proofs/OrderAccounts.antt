@@ -1,5 +1,5 @@
 -- What the order reports at each of its places is what the courses of its cores, and the entries that the run makes, give.
-use Rattle.std.proofs.Common.{◌≡◌, ◌∙◌, ◌+◌, ◌<◌, ◌≤◌, ◌==◌, ◌&&◌, ◌++◌, ℕ, zero, suc, Bool, true, false, List, [], ◌∷◌, length, filter, map, slice_get, slice_index, Option, Some, None, IfSome, IsSomeAnd, ◌⊎◌, refl, ap, sym, subst, inl, inr, arith, add-one, if◌then◌else◌}
+use Rattle.std.proofs.Common.{◌≡◌, ◌∙◌, ◌+◌, ◌<◌, ◌≤◌, ◌==◌, ◌++◌, ℕ, zero, suc, Bool, true, false, List, [], ◌∷◌, length, filter, map, slice_get, slice_index, Option, Some, None, IsSomeAnd, refl, ap, sym, subst, inl, inr, arith, add-one, if◌then◌else◌}
 use Rattle.std.proofs.lemmas.Bool.{eq-eqb, eqb-true, and_parts}
 use Rattle.std.proofs.lemmas.List.{append-nil}
 use Rattle.std.proofs.lemmas.List.Elements.{filter-append}
@@ -10,13 +10,13 @@ use Rattle.std.specs.List.{filter_map, list_all, zip}
 use Rattle.std.specs.Option.{option_map, option_and_then}
 use Rattle.ahb_bus.specs.declared.record.BusRecord.{BusRecord}
 use Rattle.lf_model.proofs.EachLemmas.{each_append, each_both, each_first, each_second, each_weaker, filter_none}
-use Rattle.lf_model.specs.Bus.Replay.{Core, LogEntry}
+use Rattle.lf_model.specs.Bus.Replay.{LogEntry}
 use Rattle.lf_model.specs.Bus.Status.{AhbStatus}
 use Rattle.lf_model.specs.Course.Progress.{Completion}
 use Rattle.lf_model.specs.Ledger.Account.{replay_of, entry_made, completions_of}
 use Rattle.lf_model.specs.Ledger.OrderAccount.{OrderAccount, Before, before_all, after_kind, along, shown, entry_in_log, completion_of, place_by_course, comes_before, sorted_by, reported_by, place_as_reported}
 use Rattle.lf_model.specs.Operation.{of_core, kind_enters, enters, kind_is_lost, is_lost, made}
-use Rattle.lf_model.specs.Records.CoreRecord.{completion_reported, completions_reported}
+use Rattle.lf_model.specs.Records.CoreRecord.{completion_reported}
 use Rattle.lf_model.specs.Records.SeenOrder.{is_load_kind, is_load}
 use Rattle.lf_model.specs.Start.{initial_byte}
 use Rattle.lf_model.specs.declared.bus.Entry.{Entry}
@@ -28,10 +28,10 @@ use Rattle.lf_model.specs.declared.trace.Op.{Op}
 use Rattle.lf_model.specs.declared.trace.Trace.{Trace}
 use Rattle.lf_model.specs.declared.trace.Word2.{Word2}
 use Rattle.run_trace.specs.Gathered.{IsGatherable}
-use Rattle.run_trace.specs.Order.{chosen, is_load_at, is_lost_in, loads_at, operation_of, order_of, woven}
+use Rattle.run_trace.specs.Order.{chosen, is_load_at, is_lost_in, loads_at, operation_of, woven}
 use Rattle.run_trace.proofs.AlongOrder.{past, along_same, past_entries, past_loads, past_lost, past_woven, before_by_core}
 use Rattle.run_trace.proofs.Cores.{OwnFrom, above, is_chosen}
-use Rattle.run_trace.proofs.Lists.{each_all, each_filter, each_of, each_pass, filter_all, split_append}
+use Rattle.run_trace.proofs.Lists.{each_filter, each_of, filter_all, split_append}
 use Rattle.run_trace.proofs.Members.{AreTogether, of_core_found, load_enters_not}
 use Rattle.run_trace.proofs.Numbers.{Rising, rising_filter, smaller_before}
 use Rattle.run_trace.proofs.ReadsOfOrder.{loads_load, lost_lost, none_of_loads}
@@ -39,8 +39,8 @@ use Rattle.run_trace.proofs.Placing.{woven_before}
 use Rattle.run_trace.proofs.Regularity.{from_some, each_operation}
 use Rattle.run_trace.proofs.Replayed.{seam}
 use Rattle.run_trace.proofs.Results.{order_enters}
-use Rattle.run_trace.proofs.Together.{each_map, numbers, log_made, together}
-use Rattle.run_trace.proofs.TraceReplay.{trace, status, record_kept, course_kept, core_of, core_found}
+use Rattle.run_trace.proofs.Together.{numbers, log_made, together}
+use Rattle.run_trace.proofs.TraceReplay.{trace, status, record_kept, core_of, core_found}
 use Rattle.run_trace.proofs.Woven.{AtAPlace, IsEntry, filter_before, split_woven, each_woven}
 
 -- the core and the number of an entry
@@ -111,15 +111,15 @@ module _ (test : CoreRecord → Op → Bool) where
         let own = is_chosen test records h.own r left right e in
         let m = of_core_found initial records log h r own.kept own.found in
         let smaller = smaller_before 0 (filter (of_core r.core) left) r (filter (of_core r.core) right)
-            (subst (λ (os : List Op). Rising 0 os) own.parts (rising_filter (test own.kept) 0 0 own.kept.ops (omega arith) m.numbered)) in
+        (subst (λ (os : List Op). Rising 0 os) own.parts (rising_filter (test own.kept) 0 0 own.kept.ops (omega arith) m.numbered)) in
         each_both (λ (o : Op). o.core ≤ r.core) (λ (o : Op). of_core r.core o ≡ true → o.k < r.k) (λ (o : Op). comes_before r o ≡ true) left
         (λ o le low. before_by_core o r le (λ same. let below = low (eq-eqb o.core r.core same) in omega (arith, below)))
         (lower_cores 0 records h.own left right r e)
         (each_of (λ (o : Op). o.k < r.k) (of_core r.core) left smaller)
 
 module _ (setup : Setup) (records : List CoreRecord) (bus : BusRecord) (watch : List Word2) (ok : IsGatherable setup records bus watch) where
-  abbrev told : Trace
-  told = trace setup records bus watch ok
+  abbrev reported : Trace
+  reported = trace setup records bus watch ok
 
   abbrev log : List Entry
   log = bus.log.entries
@@ -134,14 +134,14 @@ module _ (setup : Setup) (records : List CoreRecord) (bus : BusRecord) (watch : 
   all = together setup records log bus.transfers at bus.fates watch ok.right
 
   abbrev completions : List (List Completion)
-  completions = map completions_of (replay_of setup told).cores
+  completions = map completions_of (replay_of setup reported).cores
 
   -- ---- an operation and its record
 
   abbrev IsOwn : Op → Type 0
   IsOwn o = IsSomeAnd (slice_get records o.core) (λ kept. slice_get kept.ops o.k ≡ Some o)
 
-  own_ops : Each IsOwn told.order
+  own_ops : Each IsOwn reported.order
   own_ops = each_operation setup records bus watch ok IsOwn (λ c kept found.
       let r = record_kept setup records bus watch ok c kept found in
       each_both (λ (o : Op). o.core ≡ c) (λ (o : Op). slice_get kept.ops o.k ≡ Some o) IsOwn kept.ops
@@ -154,7 +154,7 @@ module _ (setup : Setup) (records : List CoreRecord) (bus : BusRecord) (watch : 
   completed o kept found is =
       let r = record_kept setup records bus watch ok o.core kept found in
       ap (λ (f : Option (List Completion)). option_and_then (λ cs. slice_get cs o.k) f)
-      (slice_get-map completions_of (replay_of setup told).cores o.core ∙ ap (option_map completions_of) (core_found setup records bus watch ok o.core ∙ ap (option_map (core_of setup records bus watch ok o.core)) found))
+      (slice_get-map completions_of (replay_of setup reported).cores o.core ∙ ap (option_map completions_of) (core_found setup records bus watch ok o.core ∙ ap (option_map (core_of setup records bus watch ok o.core)) found))
       ∙ (ap (λ (cs : List Completion). slice_get cs o.k) r.completed
       ∙ (slice_get-map (λ (x : Op × ℕ). completion_reported x.0 x.1) (zip kept.ops kept.seen) o.k
       ∙ ap (option_map (λ (x : Op × ℕ). completion_reported x.0 x.1)) (zip_at kept.ops kept.seen o.k o r.seen.one_each is)))
@@ -201,7 +201,7 @@ module _ (setup : Setup) (records : List CoreRecord) (bus : BusRecord) (watch : 
       let own = is_chosen (is_load_at p.n) records all.own o p.left p.right p.here in
       let passes = and_parts (is_load o) (slice_index own.kept.seen o.k == p.n) own.passes in
       let loads = each_first (λ (x : Op). is_load x ≡ true) p.left (o ∷ p.right)
-          (subst (λ (os : List Op). Each (λ (x : Op). is_load x ≡ true) os) p.here (loads_load (initial_byte setup.image) records entered all p.n)) in
+      (subst (λ (os : List Op). Each (λ (x : Op). is_load x ≡ true) os) p.here (loads_load (initial_byte setup.image) records entered all p.n)) in
       let enter = each_first (λ (x : Op). enters x ≡ true) p.front p.back (subst (λ (os : List Op). Each (λ (x : Op). enters x ≡ true) os) p.parts all.enter) in
       let start = past before_all (woven_before places 0 p.front) in
       let none : start.loads ≡ [] = past_woven places before_all 0 p.front enter refl in
@@ -251,7 +251,7 @@ module _ (setup : Setup) (records : List CoreRecord) (bus : BusRecord) (watch : 
         seen = λ load. absurd (true_or (load_not_lost o.kind load) each.0);
       }
 
-  stands : (kept : CoreRecord) (pre later : List Op) (o : Op) → slice_get records o.core ≡ Some kept → told.order ≡ pre ++ (o ∷ later) → Standing kept pre o later
+  stands : (kept : CoreRecord) (pre later : List Op) (o : Op) → slice_get records o.core ≡ Some kept → reported.order ≡ pre ++ (o ∷ later) → Standing kept pre o later
   stands kept pre later o found split = elim (split_append (woven places 0 entered) lost pre o later split) [
     | inl first ↦ elim (split_woven places 0 entered pre o first.mid first.first) [
       | inl place ↦ load_stands kept pre first.mid later o found place
@@ -274,20 +274,20 @@ module _ (setup : Setup) (records : List CoreRecord) (bus : BusRecord) (watch : 
   three p q r = rw (p, q, r) refl
 
   -- logged: the entries that the run makes are those of the log
-  module _ (logged : filter_map entry_made (replay_of setup told).made ≡ map entry_named log) where
+  module _ (logged : filter_map entry_made (replay_of setup reported).made ≡ map entry_named log) where
     abbrev made_entries : List LogEntry
-    made_entries = filter_map entry_made (replay_of setup told).made
+    made_entries = filter_map entry_made (replay_of setup reported).made
 
-    logged_ops : made_entries ≡ map entry_named (map made (filter enters told.order))
+    logged_ops : made_entries ≡ map entry_named (map made (filter enters reported.order))
     logged_ops = logged ∙ ap (map entry_named) (sym (
-        ap (map made) (order_enters setup records log bus.transfers at bus.fates watch ok.right told refl) ∙ log_made setup records log bus.transfers at bus.fates watch ok.right))
+        ap (map made) (order_enters setup records log bus.transfers at bus.fates watch ok.right reported refl) ∙ log_made setup records log bus.transfers at bus.fates watch ok.right))
 
-    entry_part : (pre later : List Op) (o : Op) (n : ℕ) → told.order ≡ pre ++ (o ∷ later) → n ≡ length (filter enters pre) → enters o ≡ true
+    entry_part : (pre later : List Op) (o : Op) (n : ℕ) → reported.order ≡ pre ++ (o ∷ later) → n ≡ length (filter enters pre) → enters o ≡ true
         → slice_get made_entries n ≡ Some (entry_named (made o))
     entry_part pre later o n split count is =
         ap (λ (es : List LogEntry). slice_get es n) logged_ops
-        ∙ (slice_get-map entry_named (map made (filter enters told.order)) n
-        ∙ ap (option_map entry_named) (slice_get-map made (filter enters told.order) n
+        ∙ (slice_get-map entry_named (map made (filter enters reported.order)) n
+        ∙ ap (option_map entry_named) (slice_get-map made (filter enters reported.order) n
         ∙ ap (option_map made) (
         ap (λ (os : List Op). slice_get (filter enters os) n) split
         ∙ (ap (λ (os : List Op). slice_get os n) (filter-append enters pre (o ∷ later) ∙ here)
@@ -296,12 +296,12 @@ module _ (setup : Setup) (records : List CoreRecord) (bus : BusRecord) (watch : 
         here : filter enters pre ++ filter enters (o ∷ later) ≡ filter enters pre ++ (o ∷ filter enters later)
         here = rw is refl
 
-    entry_same : (pre later : List Op) (o : Op) (b : Before) (is : Bool) → enters o ≡ is → told.order ≡ pre ++ (o ∷ later) → b.entries ≡ length (filter enters pre)
+    entry_same : (pre later : List Op) (o : Op) (b : Before) (is : Bool) → enters o ≡ is → reported.order ≡ pre ++ (o ∷ later) → b.entries ≡ length (filter enters pre)
         → entry_in_log made_entries b o ≡ (if enters o then Some (record { core = o.core; number = o.k }) else None)
     entry_same pre later o b true e split count = rw e (entry_part pre later o b.entries split count e)
     entry_same pre later o b false e split count = rw e refl
 
-    place_same : (pre later : List Op) (o : Op) → told.order ≡ pre ++ (o ∷ later)
+    place_same : (pre later : List Op) (o : Op) → reported.order ≡ pre ++ (o ∷ later)
         → place_by_course made_entries completions (past before_all pre) o later ≡ place_as_reported (past before_all pre) o later
     place_same pre later o split =
         let count : (past before_all pre).entries ≡ length (filter enters pre) = past_entries before_all pre ∙ omega arith in
@@ -313,5 +313,5 @@ module _ (setup : Setup) (records : List CoreRecord) (bus : BusRecord) (watch : 
         ∙ retired_by o (past before_all pre) (slice_index kept.seen o.k) o.kind refl (λ load. stand.seen load ∙ sym count))
         (sym stand.sorted))
 
-    pub order_right : along (place_by_course made_entries completions) before_all told.order ≡ along place_as_reported before_all told.order
-    order_right = along_same (place_by_course made_entries completions) place_as_reported before_all told.order place_same
+    pub order_right : along (place_by_course made_entries completions) before_all reported.order ≡ along place_as_reported before_all reported.order
+    order_right = along_same (place_by_course made_entries completions) place_as_reported before_all reported.order place_same

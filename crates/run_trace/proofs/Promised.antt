@@ -1,5 +1,5 @@
 -- What is promised of the trace that is gathered, where it is made.
-use Rattle.std.proofs.Common.{◌≡◌, ◌<◌, ◌^◌, ℕ, true, List, Result, Ok, Err, IfOk, ap, sym, subst}
+use Rattle.std.proofs.Common.{◌≡◌, ◌<◌, ◌^◌, ℕ, List, Result, Ok, Err, IfOk, ap, sym, subst}
 use Rattle.std.proofs.lemmas.Bool.{lt-ltb}
 use Rattle.ahb_bus.specs.declared.record.BusRecord.{BusRecord}
 use Rattle.lf_model.specs.Ledger.Rule.{KeepsLedger}

@@ -1,15 +1,15 @@
 -- The trace that is gathered is one that a report can show.
-use Rattle.std.proofs.Common.{◌≡◌, ◌∙◌, ◌+◌, ◌*◌, ◌<◌, ◌≤◌, ◌==◌, ◌&&◌, ◌++◌, ℕ, zero, suc, Bool, true, false, not, nat_le, List, [], ◌∷◌, length, filter, map, slice_get, Option, Some, None, IfSome, IsSomeAnd, refl, ap, sym, subst, inl, inr, arith, add-one}
+use Rattle.std.proofs.Common.{◌≡◌, ◌∙◌, ◌+◌, ◌<◌, ◌≤◌, ◌==◌, ℕ, zero, suc, Bool, true, false, not, List, [], ◌∷◌, length, filter, map, slice_get, Option, Some, None, IsSomeAnd, refl, ap, sym, subst, arith, add-one}
 use Rattle.std.proofs.Math.Nat.{mul-add, mul-le-mul_left}
 use Rattle.std.proofs.lemmas.Bool.{and_parts, le-leb, eqb-true, eqb-false}
 use Rattle.std.proofs.lemmas.List.{length-append, length-map}
 use Rattle.std.proofs.lemmas.List.Filters.{length-filter_both}
 use Rattle.std.proofs.lemmas.List.Sums.{length-filter}
-use Rattle.std.proofs.lemmas.Option.{option_and_then_some, same_Some, slice_get_within}
+use Rattle.std.proofs.lemmas.Option.{option_and_then_some, same_Some}
 use Rattle.std.proofs.lemmas.Simd.{map-map}
 use Rattle.std.specs.List.{AllByRecursion as Each}
 use Rattle.std.specs.List.{list_all, range_with_len}
-use Rattle.std.specs.Option.{is_some, option_map}
+use Rattle.std.specs.Option.{is_some}
 use Rattle.ahb_bus.specs.declared.record.BusRecord.{BusRecord}
 use Rattle.lf_model.proofs.EachLemmas.{each_append, each_both, each_weaker}
 use Rattle.lf_model.specs.Bus.Status.{AhbStatus}
@@ -20,11 +20,11 @@ use Rattle.lf_model.specs.Ledger.Account.{without_length}
 use Rattle.lf_model.specs.Ledger.Steps.{own_transfers}
 use Rattle.lf_model.specs.Once.{HasMaster}
 use Rattle.lf_model.specs.Operation.{of_core, enters, made}
-use Rattle.lf_model.specs.Promise.Regular.{IsRegular, is_regular_core, is_regular_op, is_regular_word, steps_fit, turn_of}
+use Rattle.lf_model.specs.Promise.Regular.{IsRegular, is_regular_core, is_regular_op, steps_fit, turn_of}
 use Rattle.lf_model.specs.Promise.RegularTransfer.{fits_word, is_regular_on_bus, is_regular_transfer}
 use Rattle.lf_model.specs.Records.AllRecords.{watched_word, words_named_by_all}
 use Rattle.lf_model.specs.Records.BusMemory.{memory_after}
-use Rattle.lf_model.specs.Records.CoreRecord.{RecordOk, core_of_record}
+use Rattle.lf_model.specs.Records.CoreRecord.{core_of_record}
 use Rattle.lf_model.specs.Records.CoreRules.{ShowsState}
 use Rattle.lf_model.specs.Run.{Run, operation, with_access, effect_at_pc, answered, onward, run}
 use Rattle.lf_model.specs.Start.{initial_byte}
@@ -37,12 +37,12 @@ use Rattle.lf_model.specs.declared.trace.Op.{Op}
 use Rattle.lf_model.specs.declared.trace.Trace.{Trace}
 use Rattle.lf_model.specs.declared.trace.Word2.{Word2}
 use Rattle.run_trace.specs.Gathered.{result_kept, IsGatherable}
-use Rattle.run_trace.specs.Order.{chosen, is_load_at, is_lost_in, loads_at, operation_of, order_of, woven}
+use Rattle.run_trace.specs.Order.{chosen, is_load_at, is_lost_in, loads_at, operation_of, woven}
 use Rattle.run_trace.proofs.Cores.{some_at}
 use Rattle.run_trace.proofs.Counts.{core_number}
 use Rattle.run_trace.proofs.Execution.{all_within, core_at, of_number}
 use Rattle.run_trace.proofs.Headlines.{fates_count}
-use Rattle.run_trace.proofs.Lists.{filter_swap, each_all, each_filter, each_of, each_pass}
+use Rattle.run_trace.proofs.Lists.{filter_swap, each_filter, each_of, each_pass}
 use Rattle.run_trace.proofs.Replayed.{core_master}
 use Rattle.run_trace.proofs.Shares.{shared, fewer, not_true}
 use Rattle.run_trace.proofs.Together.{each_by_place, each_map, each_core_op, own_entries, cores_kept, together}
@@ -87,8 +87,8 @@ module _ (setup : Setup) (core : ℕ) (answers : List ℕ) where
       omega (arith, ops_few n q before, onward_few q r (is_some q.state.halt) refl step, add-one n))
 
 module _ (setup : Setup) (records : List CoreRecord) (bus : BusRecord) (watch : List Word2) (ok : IsGatherable setup records bus watch) where
-  abbrev told : Trace
-  told = trace setup records bus watch ok
+  abbrev reported : Trace
+  reported = trace setup records bus watch ok
 
   abbrev log : List Entry
   log = bus.log.entries
@@ -103,13 +103,13 @@ module _ (setup : Setup) (records : List CoreRecord) (bus : BusRecord) (watch : 
       let r = record_kept setup records bus watch ok c kept found in
       from_some (λ (q : Run). ShowsState setup (core_of_record c kept bus.transfers) q.state) (run setup c (answers_of kept.ops) kept.result.n) r.result (λ q is shows. shows.within)
 
-  cores_count : length told.cores ≡ setup.config.cores
+  cores_count : length reported.cores ≡ setup.config.cores
   cores_count = length-map records result_kept ∙ ok.right.one_each
 
-  few_steps : list_all (steps_fit (length told.cores)) told.cores ≡ true
-  few_steps = all_true (steps_fit (length told.cores)) told.cores
-      (each_map (λ (r : CoreResult). steps_fit (length told.cores) r ≡ true) result_kept records
-      (each_some (λ (kept : CoreRecord). steps_fit (length told.cores) kept.result ≡ true) records (λ c kept found.
+  few_steps : list_all (steps_fit (length reported.cores)) reported.cores ≡ true
+  few_steps = all_true (steps_fit (length reported.cores)) reported.cores
+      (each_map (λ (r : CoreResult). steps_fit (length reported.cores) r ≡ true) result_kept records
+      (each_some (λ (kept : CoreRecord). steps_fit (length reported.cores) kept.result ≡ true) records (λ c kept found.
       rw cores_count (le-leb _ _ (omega (arith, mul-le-mul_left setup.config.cores (core_steps c kept found), ok.limits.few_steps))))))
 
   -- ---- operations
@@ -120,14 +120,14 @@ module _ (setup : Setup) (records : List CoreRecord) (bus : BusRecord) (watch : 
       from_some (λ (q : Run). q.ops ≡ map made kept.ops) (run setup c (answers_of kept.ops) kept.result.n) r.thread.same (λ q is same.
       omega (arith, ops_few setup c (answers_of kept.ops) kept.result.n q is, ap (λ (es : List Entry). length es) same, length-map kept.ops made, r.thread.within))
 
-  few_operations : length told.order ≤ 4000000
+  few_operations : length reported.order ≤ 4000000
   few_operations = omega (
     arith,
-    shared (λ (o : Op). o.core) setup.config.steps setup.config.cores told.order (all_within setup records log bus.transfers at bus.fates watch ok.right)
+    shared (λ (o : Op). o.core) setup.config.steps setup.config.cores reported.order (all_within setup records log bus.transfers at bus.fates watch ok.right)
         (λ c within. let found = some_at records c (omega (arith, within, ok.right.one_each)) in
         omega (
           arith,
-          length-filter (of_core c) told.order,
+          length-filter (of_core c) reported.order,
           core_ops c found.0 found.1,
           core_number (initial_byte setup.image) records (map (operation_of records) log) (together setup records log bus.transfers at bus.fates watch ok.right)
               (of_number setup records log bus.transfers at bus.fates watch ok.right c) found.0 (core_at setup records log bus.transfers at bus.fates watch ok.right c found.0 found.1),
@@ -158,7 +158,7 @@ module _ (setup : Setup) (records : List CoreRecord) (bus : BusRecord) (watch : 
             (subst (λ (os : List Op). Each P os) (sym (own_entries setup records log bus.transfers at bus.fates watch ok.right c kept e (record_kept setup records bus watch ok c kept e)))
             (each_filter P enters kept.ops (each c kept e)))
 
-    pub each_operation : Each P told.order
+    pub each_operation : Each P reported.order
     each_operation = each_append P (woven (loads_at records) 0 (map (operation_of records) log)) (chosen is_lost_in records)
         (each_woven (loads_at records) P 0 (map (operation_of records) log) (λ i. all_chosen (is_load_at i)) each_entered) (all_chosen is_lost_in)
 
@@ -177,7 +177,7 @@ module _ (setup : Setup) (records : List CoreRecord) (bus : BusRecord) (watch : 
       (each_by_place (λ (t : Transfer). HasMaster setup.config.cores t.master t.kind) bus.transfers ok.right.bus.masters))
       (each_pass (λ t. not (is_walks t)) bus.transfers)
 
-  few_transfers : length told.transfers ≤ 5000064
+  few_transfers : length reported.transfers ≤ 5000064
   few_transfers =
       let parts = length-filter_both is_walks (λ t. not (is_walks t)) (λ t. refl) bus.transfers in
       let shares = shared (λ (t : Transfer). t.master) (setup.config.steps + 8) setup.config.cores cores_transfers masters (λ c within.
@@ -189,15 +189,15 @@ module _ (setup : Setup) (records : List CoreRecord) (bus : BusRecord) (watch : 
       )) in
       omega (arith, length-map bus.transfers without_length, parts, shares, ok.right.bus.scrub_share, mul-add setup.config.cores setup.config.steps 8, ok.limits.few_cores, ok.limits.few_steps, ok.limits.few_scrub_turns)
 
-  transfers_fit : list_all is_regular_transfer told.transfers ≡ true
-  transfers_fit = all_true is_regular_transfer told.transfers
+  transfers_fit : list_all is_regular_transfer reported.transfers ≡ true
+  transfers_fit = all_true is_regular_transfer reported.transfers
       (each_map (λ (t : Transfer). is_regular_transfer t ≡ true) without_length bus.transfers
       (each_weaker (λ (t : Transfer). is_regular_on_bus t ≡ true) (λ (t : Transfer). is_regular_transfer (without_length t) ≡ true) bus.transfers
       (λ t fits. rw fits refl) (each_true is_regular_on_bus bus.transfers ok.right.bus.regular)))
 
   -- ---- all of it
 
-  pub regular : fits_word bus.ahb_addr ≡ true → fits_word bus.ahb_status ≡ true → IsRegular told
+  pub regular : fits_word bus.ahb_addr ≡ true → fits_word bus.ahb_status ≡ true → IsRegular reported
   regular addr_fits status_fits = record {
     some_core = omega (arith, cores_count, ok.limits.some_core);
     few_cores = omega (arith, cores_count, ok.limits.few_cores);
@@ -206,13 +206,13 @@ module _ (setup : Setup) (records : List CoreRecord) (bus : BusRecord) (watch : 
     few_operations = few_operations;
     few_fates = omega (arith, fates_count records bus.fates 0 setup.flips, ok.limits.few_flips);
     few_words = omega (arith, ap (λ (ws : List Word2). length ws) ok.right.watch_is, length-map setup.config.watch (watched_word setup.image log (memory_after setup.flips (words_named_by_all records) bus.transfers).words), ok.limits.few_words);
-    cores = all_true is_regular_core told.cores
+    cores = all_true is_regular_core reported.cores
         (each_map (λ (r : CoreResult). is_regular_core r ≡ true) result_kept records
         (each_some (λ (kept : CoreRecord). is_regular_core kept.result ≡ true) records (λ c kept found. (record_kept setup records bus watch ok c kept found).core_fits)));
     status = rw (addr_fits, status_fits) refl;
     turns = map-map turn_of without_length bus.transfers ∙ (ok.right.bus.turns ∙ ap (range_with_len 0) (sym (length-map bus.transfers without_length)));
     transfers = transfers_fit;
-    operations = all_true is_regular_op told.order
+    operations = all_true is_regular_op reported.order
         (each_operation (λ (o : Op). is_regular_op o ≡ true) (λ c kept found. each_true is_regular_op kept.ops (record_kept setup records bus watch ok c kept found).ops_fit));
     words = ok.fit;
   }

@@ -1,9 +1,8 @@
 -- The run of all masters over the transfers of right records makes just these transfers, with the words of memory and the walk of
 -- the scrubber that the record of the bus says.
-use Rattle.std.proofs.Common.{◌≡◌, ◌∙◌, ◌+◌, ◌<◌, ◌≤◌, ◌==◌, ◌&&◌, ◌++◌, ℕ, zero, suc, Bool, true, false, not, nat_le, List, [], ◌∷◌, length, take, fold, map, slice_get, Option, ◌⊎◌, Some, None, IfSome, refl, ap, sym, subst, inl, inr, arith, add-one, if◌then◌else◌}
-use Rattle.std.proofs.lemmas.Bool.{cases_Bool, cases_eq, eq-eqb, ne_eqb, eqb-true, eqb-false, leb-true, and_parts}
-use Rattle.std.proofs.lemmas.List.{append_assoc, append-nil, length-append, length-map, take_all, take-append-le}
-use Rattle.std.proofs.lemmas.List.FromFn.{length-range_with_len}
+use Rattle.std.proofs.Common.{◌≡◌, ◌∙◌, ◌+◌, ◌<◌, ◌≤◌, ◌==◌, ◌++◌, ℕ, zero, suc, Bool, true, false, nat_le, List, [], ◌∷◌, length, take, fold, map, slice_get, Option, ◌⊎◌, Some, None, IfSome, refl, ap, sym, subst, inl, inr, arith, add-one, if◌then◌else◌}
+use Rattle.std.proofs.lemmas.Bool.{cases_Bool, cases_eq, eq-eqb, ne_eqb, leb-true, and_parts}
+use Rattle.std.proofs.lemmas.List.{append_assoc, append-nil, take_all, take-append-le}
 use Rattle.std.proofs.lemmas.List.Sums.{fold-append}
 use Rattle.std.proofs.lemmas.Option.{slice_get-map, slice_get_within, same_Some}
 use Rattle.std.specs.List.{enumerate_from, list_all, range_with_len}

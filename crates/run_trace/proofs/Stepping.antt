@@ -1,12 +1,11 @@
 -- The steps of a core are right by its transfers as a trace has them, without their lengths.
-use Rattle.std.proofs.Common.{◌≡◌, ◌∙◌, ◌+◌, ◌-◌, ◌==◌, ◌&&◌, ◌||◌, ◌++◌, ℕ, zero, suc, Bool, true, false, not, nat_lt, nat_le, List, [], ◌∷◌, length, filter, map, count_by, refl, ap, sym, subst}
+use Rattle.std.proofs.Common.{◌≡◌, ◌∙◌, ◌+◌, ◌==◌, ◌&&◌, ◌||◌, ◌++◌, ℕ, Bool, not, nat_lt, nat_le, List, [], ◌∷◌, length, filter, map, count_by, refl, ap, sym}
 use Rattle.std.proofs.lemmas.List.{length-map, map-append}
 use Rattle.std.proofs.lemmas.List.Sums.{length-filter}
-use Rattle.std.specs.Int.{from_bool}
 use Rattle.std.specs.List.{list_all, list_any}
 use Rattle.lf_model.proofs.EachLemmas.{filter_map_same}
 use Rattle.lf_model.specs.Ledger.Account.{without_length}
-use Rattle.lf_model.specs.Ledger.Steps.{HasSteps, in_steps, past_steps, ascends_from, is_last_drain, is_of_last_step, retires_instruction, stops_in_last, retiring_steps, is_halt, last_retires}
+use Rattle.lf_model.specs.Ledger.Steps.{HasSteps, in_steps, past_steps, ascends_from, is_last_drain, is_of_last_step, retires_instruction, retiring_steps, is_halt, last_retires}
 use Rattle.lf_model.specs.declared.bus.Transfer.{Transfer}
 use Rattle.lf_model.specs.declared.setup.Setup.{Setup}
 use Rattle.lf_model.specs.declared.trace.CoreEnd.{CoreEnd}

@@ -1,5 +1,5 @@
 -- The run of all masters over the transfers of the trace that is gathered: each core's part in it is the course of that core's record.
-use Rattle.std.proofs.Common.{◌≡◌, ◌∙◌, ◌+◌, ◌==◌, ℕ, zero, suc, Bool, List, [], ◌∷◌, length, filter, fold, map, slice_get, Option, Some, None, IfSome, refl, ap, sym, subst, arith, add-one}
+use Rattle.std.proofs.Common.{◌≡◌, ◌∙◌, ◌+◌, ◌==◌, ℕ, suc, List, [], ◌∷◌, length, fold, map, slice_get, Option, Some, None, IfSome, refl, ap, sym, subst, arith, add-one}
 use Rattle.std.proofs.lemmas.List.{length-map}
 use Rattle.std.proofs.lemmas.Option.{slice_get-map}
 use Rattle.std.specs.List.{enumerate_from}
@@ -10,7 +10,6 @@ use Rattle.run_trace.proofs.Composing.{after, along_cores}
 use Rattle.lf_model.proofs.ReplayLemmas.{core_after_all, turns_without_length}
 use Rattle.lf_model.specs.Bus.Replay.{Core, Replay, replay_start, replay_turn, core_finished, replay_finished, replay}
 use Rattle.lf_model.specs.Bus.Status.{AhbStatus}
-use Rattle.lf_model.specs.Bus.Words.{Word}
 use Rattle.lf_model.specs.Course.Core.{Ground, given_by, ground_of}
 use Rattle.lf_model.specs.Course.Progress.{Progress}
 use Rattle.lf_model.specs.Execution.{program_order}
@@ -23,7 +22,6 @@ use Rattle.lf_model.specs.Records.CoreRules.{course_of_ended}
 use Rattle.lf_model.specs.declared.bus.Transfer.{Transfer}
 use Rattle.lf_model.specs.declared.record.CoreRecord.{CoreRecord}
 use Rattle.lf_model.specs.declared.setup.Setup.{Setup}
-use Rattle.lf_model.specs.declared.trace.CoreResult.{CoreResult}
 use Rattle.lf_model.specs.declared.trace.Op.{Op}
 use Rattle.lf_model.specs.declared.trace.Trace.{Trace}
 use Rattle.lf_model.specs.declared.trace.Word2.{Word2}

@@ -9,7 +9,7 @@ use Rattle.lf_model.specs.declared.setup.Setup.{Setup}
 use Rattle.lf_model.specs.declared.trace.CoreResult.{CoreResult}
 use Rattle.lf_model.specs.declared.trace.Trace.{Trace}
 use Rattle.lf_model.specs.declared.trace.Word2.{Word2}
-use Rattle.run_trace.specs.Fates.{fates_told}
+use Rattle.run_trace.specs.Fates.{fates_recorded}
 use Rattle.run_trace.specs.Order.{order_of}
 use Rattle.ahb_bus.specs.declared.record.BusRecord.{BusRecord}
 
@@ -23,7 +23,7 @@ gathered setup records bus watch = record {
   ahb_status = bus.ahb_status;
   transfers = map without_length bus.transfers;
   order = order_of records bus.log.entries;
-  fates = fates_told records bus.fates 0 setup.flips;
+  fates = fates_recorded records bus.fates 0 setup.flips;
   watch = watch;
 }
 

@@ -1,6 +1,6 @@
 ghost use Rattle.std.specs.Prelude.{◌≡◌, IfOk, slice_index_or};
 ghost use Rattle.lf_model.specs.declared.trace.Fate.TheVariants.{Late};
-ghost use Rattle.run_trace.specs.Fates.{core_fate, fate_told, fates_told};
+ghost use Rattle.run_trace.specs.Fates.{core_fate, fate_recorded, fates_recorded};
 
 use lf_model::flip::Flip;
 use lf_model::record::CoreRecord;
@@ -32,7 +32,7 @@ fn core_fate(records: &[CoreRecord], core: u32, i: usize) -> Fate
 
 /// The fate of flip `i`: of a flip of memory as the bus records it, and of others as their core does.
 fn fate_of(flip: &Flip, records: &[CoreRecord], bus: &[Fate], i: usize) -> Fate
-    ensures { result ≡ fate_told records.now bus.now i flip.now }
+    ensures { result ≡ fate_recorded records.now bus.now i flip.now }
 {
     match *flip {
         Flip::Mem { .. } => fate_at(bus, i),
@@ -49,7 +49,7 @@ pub fn fates_of(
     records: &[CoreRecord],
     bus: &[Fate],
 ) -> Result<Vec<Fate>, AllocError>
-    ensures { IfOk result (λ fates. fates.items ≡ fates_told records.now bus.now 0 script.now) }
+    ensures { IfOk result (λ fates. fates.items ≡ fates_recorded records.now bus.now 0 script.now) }
 {
     let mut fates = Vec::with_capacity(alloc, script.len())?;
     for i in 0..script.len() {

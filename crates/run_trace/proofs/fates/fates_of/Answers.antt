@@ -1,4 +1,4 @@
-use Rattle.std.proofs.Common.{◌∙◌, ◌≡◌, ◌++◌, ◌∷◌, List, [], ap}
+use Rattle.std.proofs.Common.{◌∙◌, ◌++◌, ◌∷◌, List, [], ap}
 use Rattle.lf_model.specs.declared.trace.Fate.{Fate}
 use Rattle.run_trace.proofs.EachFate.{fates_more}
 use Rattle.run_trace.proofs.fates.fates_of.Goals as goal

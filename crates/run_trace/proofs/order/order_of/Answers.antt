@@ -1,4 +1,4 @@
-use Rattle.std.proofs.Common.{◌≡◌, ◌<◌, ◌∙◌, ◌++◌, ◌∷◌, List, [], length, sym, ap, arith}
+use Rattle.std.proofs.Common.{◌≡◌, ◌<◌, ◌∙◌, ◌++◌, ◌∷◌, [], length, sym, ap, arith}
 use Rattle.lf_model.specs.declared.trace.Op.{Op}
 use Rattle.run_trace.specs.Order.{loads_at}
 use Rattle.run_trace.proofs.Placing.{operation_read, weaving_more, weaving_all}

@@ -1,4 +1,4 @@
-use Rattle.std.proofs.Common.{◌≡◌, ◌<◌, ◌≤◌, List, length, slice_index, refl, sym, ◌∙◌, ℕ, subst, arith}
+use Rattle.std.proofs.Common.{◌<◌, List, length, slice_index, sym, ◌∙◌, ℕ, subst}
 use Rattle.lf_model.specs.declared.trace.Op.{Op}
 use Rattle.run_trace.proofs.Placing.{loads_start, step_taken, step_passed, loads_before_more}
 use Rattle.run_trace.proofs.order.push_core_loads.Goals as goal

@@ -1,4 +1,4 @@
-use Rattle.std.proofs.Common.{◌≡◌, ◌∙◌, ◌++◌, List, filter, ap, sym, append_assoc, take, length, refl}
+use Rattle.std.proofs.Common.{◌∙◌, ◌++◌, List, filter, ap, sym, append_assoc, take, length, refl}
 use Rattle.std.proofs.lemmas.Option.{slice_get_read}
 use Rattle.lf_model.specs.declared.trace.Op.{Op}
 use Rattle.run_trace.specs.Order.{chosen, is_lost_in}

@@ -1,6 +1,4 @@
 use Rattle.std.proofs.Common.{ℕ, ◌∙◌, ◌<◌, length, arith, subst, sym}
-use Rattle.lf_model.specs.Bus.Status.{AhbStatus}
-use Rattle.lf_model.specs.declared.record.CoreRecord.{CoreRecord}
 use Rattle.run_trace.specs.Cursors.{AreReadable, IsListed}
 use Rattle.run_trace.proofs.Gatherable.{readable, listed, few_entries}
 use Rattle.run_trace.proofs.trace.assembled.Goals as goal
