@@ -39,7 +39,7 @@ module _ (test : CoreRecord → Op → Bool) where
       each_append P (filter (test kept) kept.ops) (chosen test records)
       (each_weaker (λ (o : Op). test kept o ≡ true) P (filter (test kept) kept.ops) (h kept) (each_pass (test kept) kept.ops)) (chosen_pass P h records)
 
-  above : (n : ℕ) (records : List CoreRecord) → OwnFrom n records → Each (λ (o : Op). n ≤ o.core) (chosen test records)
+  pub above : (n : ℕ) (records : List CoreRecord) → OwnFrom n records → Each (λ (o : Op). n ≤ o.core) (chosen test records)
   above n [] own = tt
   above n (kept ∷ records) own =
       each_append (λ (o : Op). n ≤ o.core) (filter (test kept) kept.ops) (chosen test records)

@@ -38,10 +38,10 @@ module _ (setup : Setup) (records : List CoreRecord) (log : List Entry) (transfe
   entered = map (operation_of records) log
 
   -- an operation of a core with this number
-  abbrev of_number : ℕ → Op
+  abbrev pub of_number : ℕ → Op
   of_number c = record no_operation { core = c }
 
-  core_at : (c : ℕ) (kept : CoreRecord) → slice_get records c ≡ Some kept
+  pub core_at : (c : ℕ) (kept : CoreRecord) → slice_get records c ≡ Some kept
       → OfCore (initial_byte setup.image) records (map (operation_of records) log) (together setup records log transfers status fates watch ok) (of_number c) kept
   core_at c kept found = of_core_found (initial_byte setup.image) records (map (operation_of records) log) (together setup records log transfers status fates watch ok) (of_number c) kept found
 
@@ -53,7 +53,7 @@ module _ (setup : Setup) (records : List CoreRecord) (log : List Entry) (transfe
       let at = some_at records c (omega (arith, within, ok.one_each)) in
       once_at (initial_byte setup.image) records (map (operation_of records) log) (together setup records log transfers status fates watch ok) (of_number c) at.0 (core_at c at.0 at.1)
 
-  all_within : Each (λ (o : Op). o.core < setup.config.cores) (order_of records log)
+  pub all_within : Each (λ (o : Op). o.core < setup.config.cores) (order_of records log)
   all_within =
       let all = together setup records log transfers status fates watch ok in
       each_weaker (λ (o : Op). o.core < 0 + length records) (λ (o : Op). o.core < setup.config.cores) (order_of records log) (λ o e. omega (arith, e, ok.one_each))

@@ -1,3 +1,4 @@
+pub mod EachFate
 pub mod Placing
 pub mod Lists
 pub mod Woven
@@ -11,3 +12,22 @@ pub mod Counts
 pub mod ProgramOrder
 pub mod Execution
 pub mod Results
+pub mod Composing
+pub mod NamedWords
+pub mod Replayed
+pub mod TraceReplay
+pub mod Headlines
+pub mod Shares
+pub mod Gatherable
+pub mod Regularity
+pub mod Stepping
+pub mod FlipsKept
+pub mod Accounts
+pub mod AlongOrder
+pub mod OrderAccounts
+pub mod CourseKept
+pub mod Sound
+pub mod EntryNumbers
+pub mod EntriesMade
+pub mod LedgerKept
+pub mod Promised

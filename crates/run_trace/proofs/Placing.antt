@@ -1,15 +1,16 @@
 -- The loops that make the order: the loads of a core are placed from its cursor on, those of all cores, and then the entries of
 -- the log one by one.
-use Rattle.std.proofs.Common.{◌≡◌, ◌∙◌, ◌+◌, ◌-◌, ◌<◌, ◌≤◌, ◌&&◌, ◌++◌, ℕ, zero, suc, Bool, true, false, List, [], ◌∷◌, length, take, filter, map, slice_index, slice_index_or, slice_get, slice_set, replicate, Option, Some, None, IfSome, ◌⊎◌, refl, ap, sym, subst, inl, inr, arith, add-one, append_assoc}
+use Rattle.std.proofs.Common.{◌≡◌, ◌∙◌, ◌+◌, ◌-◌, ◌<◌, ◌≤◌, ◌&&◌, ◌++◌, ℕ, zero, suc, Bool, true, false, List, [], ◌∷◌, length, take, filter, map, slice_index, slice_index_or, slice_get, slice_set, replicate, Option, Some, None, IfSome, IsSomeAnd, ◌⊎◌, refl, ap, sym, subst, inl, inr, arith, add-one, append_assoc}
 use Rattle.std.proofs.lemmas.Bool.{eq-eqb, ne_eqb, cases_eq, cases_lt}
 use Rattle.std.proofs.lemmas.List.{append-nil, take_more, take_all, length-map, length-take-le, map-append, length-set, get_or-set_same, get_or-set_other}
 use Rattle.std.proofs.lemmas.List.Elements.{filter-append}
 use Rattle.std.proofs.lemmas.Option.{slice_get-get_or, slice_get_past, get_or_from_slice_get}
+use Rattle.std.specs.Option.{option_map_or}
 use Rattle.lf_model.specs.Records.SeenOrder.{is_load}
 use Rattle.lf_model.specs.declared.bus.Entry.{Entry}
 use Rattle.lf_model.specs.declared.record.CoreRecord.{CoreRecord}
 use Rattle.lf_model.specs.declared.trace.Op.{Op}
-use Rattle.run_trace.specs.Cursors.{IsReadable, IsCursor, AreCursors}
+use Rattle.run_trace.specs.Cursors.{IsReadable, IsCursor, AreCursors, IsListed}
 use Rattle.run_trace.specs.Order.{chosen, is_load_at, is_lost_in, loads_at, no_operation, operation_of, woven, order_of}
 
 and_none : (b : Bool) → (b && false) ≡ false
@@ -213,6 +214,23 @@ woven_by_before {X} at place [] n e = ap at (omega (arith, e))
 woven_by_before {X} at place (y ∷ xs) n e =
     ap (λ (zs : List X). at place ++ y ∷ zs) (woven_by_before at (place + 1) xs n (omega (arith, e, add-one (length xs))))
     ∙ sym (append_assoc (at place) (y ∷ woven_before at (place + 1) xs) (at n))
+
+-- the operation that the code reads for an entry
+pub operation_read : (records : List CoreRecord) (log : List Entry) (place : ℕ) (e : Entry) (kept : CoreRecord) (ops : List Op) (d : Op) → ops ≡ (slice_index_or records e.core kept).ops
+    → slice_get log place ≡ Some e → IsListed records log place → slice_index_or ops e.k d ≡ operation_of records e
+operation_read records log place e kept ops d same at listed = by_found (slice_get records e.core) refl
+    (subst (λ found. IfSome found (λ (x : Entry). IsSomeAnd (slice_get records x.core) (λ (k : CoreRecord). x.k < length k.ops))) at listed)
+  where
+    with_kept : (k : CoreRecord) → slice_get records e.core ≡ Some k → e.k < length k.ops → slice_index_or ops e.k d ≡ operation_of records e
+    with_kept k found within =
+        let is : slice_index_or records e.core kept ≡ k = get_or_from_slice_get records e.core k kept found in
+        ap (λ (os : List Op). slice_index_or os e.k d) (same ∙ ap (λ (j : CoreRecord). j.ops) is)
+        ∙ (sym (get_or_from_slice_get k.ops e.k (slice_index_or k.ops e.k d) no_operation (slice_get-get_or k.ops e.k d within))
+        ∙ ap (λ o. slice_index_or (option_map_or (λ (j : CoreRecord). j.ops) o []) e.k no_operation) (sym found))
+
+    by_found : (found : Option CoreRecord) → slice_get records e.core ≡ found → IsSomeAnd found (λ (k : CoreRecord). e.k < length k.ops) → slice_index_or ops e.k d ≡ operation_of records e
+    by_found None q within = absurd within
+    by_found (Some k) q within = with_kept k q within
 
 -- the entries of the first places of the log are placed, with the loads before each of them
 pub record Weaving (records : List CoreRecord) (log : List Entry) (order : List Op) (cursors : List ℕ) (place : ℕ) : Type 0 where

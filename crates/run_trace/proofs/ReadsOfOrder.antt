@@ -1,5 +1,5 @@
 -- Each load and atomic of the order reads what its candidates leave: they are the entries that its core had seen, with the stores
--- that waited behind them.
+-- that waited after them.
 use Rattle.std.proofs.Common.{◌≡◌, ◌∙◌, ◌+◌, ◌<◌, ◌≤◌, ◌++◌, ◌&&◌, ◌||◌, ◌==◌, ℕ, Bool, true, false, List, [], ◌∷◌, length, take, drop, filter, map, count_by, slice_get, slice_index, Some, IfSome, ◌⊎◌, refl, ap, sym, subst, inl, inr, arith, append_assoc}
 use Rattle.std.proofs.lemmas.Bool.{cases_eq, and_parts, eqb-true, lt-ltb}
 use Rattle.std.proofs.lemmas.List.{append-nil, take_at, drop_at, length-map, map-append}
@@ -206,7 +206,7 @@ module _ (initial : ℕ → ℕ) (records : List CoreRecord) (log : List Op) (h 
 
   -- ---- an atomic
 
-  -- an own entry has a lower number than those behind it, and so than the lost stores
+  -- an own entry has a lower number than those after it, and so than the lost stores
   none_own_later : (r : Op) (ahead back : List Op) → log ≡ ahead ++ (r ∷ back) → EntryOf initial records log h r ahead back → own_back r back ≡ []
   none_own_later r ahead back parts own = two back_none lost_none
     where

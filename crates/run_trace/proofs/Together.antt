@@ -51,17 +51,17 @@ map_same f [] h = refl
 map_same f (x ∷ xs) h = rw (h.0, map_same f xs h.1) refl
 
 -- what holds of the entries of each core holds of all
-each_core : (P : Entry → Type 0) (es : List Entry) → ((c : ℕ) → Each (λ (e : Entry). is_entry_of c e ≡ true → P e) es) → Each P es
+pub each_core : (P : Entry → Type 0) (es : List Entry) → ((c : ℕ) → Each (λ (e : Entry). is_entry_of c e ≡ true → P e) es) → Each P es
 each_core P [] h = tt
 each_core P (e ∷ es) h = ((h e.core).0 (eq-eqb e.core e.core refl), each_core P es (λ c. (h c).1))
 
-each_core_op : (P : Op → Type 0) (os : List Op) → ((c : ℕ) → Each (λ (o : Op). of_core c o ≡ true → P o) os) → Each P os
+pub each_core_op : (P : Op → Type 0) (os : List Op) → ((c : ℕ) → Each (λ (o : Op). of_core c o ≡ true → P o) os) → Each P os
 each_core_op P [] h = tt
 each_core_op P (o ∷ os) h = ((h o.core).0 (eq-eqb o.core o.core refl), each_core_op P os (λ c. (h c).1))
 
 -- ---- masters
 
-entry_by_core : (cores master : ℕ) (kind : TurnKind) → makes_entry kind ≡ true → HasMaster cores master kind → master < cores
+pub entry_by_core : (cores master : ℕ) (kind : TurnKind) → makes_entry kind ≡ true → HasMaster cores master kind → master < cores
 entry_by_core cores master Fetch e h = absurd cc
 entry_by_core cores master Load e h = absurd cc
 entry_by_core cores master Store e h = h
@@ -80,7 +80,7 @@ module _ (setup : Setup) (records : List CoreRecord) (log : List Entry) (transfe
       at (Some kept) e = subst (λ o. IfSome o (λ (k : CoreRecord). RecordOk setup c k log transfers)) e (ok.cores c (omega (arith, slice_get_within records c kept e, ok.one_each)))
 
   -- the log has entries of the setup's cores alone
-  log_cores : Each (λ (e : Entry). e.core < setup.config.cores) log
+  pub log_cores : Each (λ (e : Entry). e.core < setup.config.cores) log
   log_cores = each_unmap (λ (p : Placed). p.core < setup.config.cores) entry_placed log
       (subst (λ (ps : List Placed). Each (λ (p : Placed). p.core < setup.config.cores) ps) (sym ok.bus.log_is)
       (each_map (λ (p : Placed). p.core < setup.config.cores) transfer_placed (filter is_successful transfers)
@@ -91,7 +91,7 @@ module _ (setup : Setup) (records : List CoreRecord) (log : List Entry) (transfe
 
   -- ---- the operation of an entry
 
-  numbers : (kept : CoreRecord) (c : ℕ) → RecordOk setup c kept log transfers → Each (λ (o : Op). slice_get kept.ops o.k ≡ Some o) kept.ops
+  pub numbers : (kept : CoreRecord) (c : ℕ) → RecordOk setup c kept log transfers → Each (λ (o : Op). slice_get kept.ops o.k ≡ Some o) kept.ops
   numbers kept c r = at_number kept.ops (numbered_by 0 kept.ops (λ j. zero_plus j (slice_get kept.ops j) (r.seen.numbered j)))
     where
       zero_plus : (j : ℕ) (o : Option Op) → IfSome o (λ x. x.k ≡ j) → IfSome o (λ x. x.k ≡ 0 + j)
@@ -128,7 +128,7 @@ module _ (setup : Setup) (records : List CoreRecord) (log : List Entry) (transfe
   log_made = map-map made (operation_of records) log ∙ map_same (λ (e : Entry). made (operation_of records e)) log looked_up
 
   -- the entries of a core are its operations that reached memory
-  own_entries : (c : ℕ) (kept : CoreRecord) → slice_get records c ≡ Some kept → RecordOk setup c kept log transfers → filter (of_core c) (map (operation_of records) log) ≡ filter enters kept.ops
+  pub own_entries : (c : ℕ) (kept : CoreRecord) → slice_get records c ≡ Some kept → RecordOk setup c kept log transfers → filter (of_core c) (map (operation_of records) log) ≡ filter enters kept.ops
   own_entries c kept found r =
       sym (filter_map_same (is_entry_of c) (of_core c) (operation_of records) log
       (each_weaker (λ (e : Entry). made (operation_of records e) ≡ e) (λ (e : Entry). is_entry_of c e ≡ of_core c (operation_of records e)) log (λ e same. ap (is_entry_of c) (sym same)) looked_up))
@@ -150,7 +150,7 @@ module _ (setup : Setup) (records : List CoreRecord) (log : List Entry) (transfe
   own_at c None r = tt
   own_at c (Some kept) r = each_weaker (λ (o : Op). o.core ≡ c) (λ (o : Op). o.core ≡ 0 + c) kept.ops (λ o e. omega (arith, e)) r.seen.of_core
 
-  cores_kept : Each (λ (o : Op). o.core < length records) (map (operation_of records) log)
+  pub cores_kept : Each (λ (o : Op). o.core < length records) (map (operation_of records) log)
   cores_kept = each_map (λ (o : Op). o.core < length records) (operation_of records) log
       (each_both (λ (e : Entry). made (operation_of records e) ≡ e) (λ (e : Entry). e.core < setup.config.cores) (λ (e : Entry). (operation_of records e).core < length records) log
       (λ e same within. omega (arith, within, ok.one_each, ap (λ (x : Entry). x.core) same)) looked_up log_cores)

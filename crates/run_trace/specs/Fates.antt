@@ -11,13 +11,13 @@ abbrev pub core_fate : List CoreRecord → ℕ → ℕ → Fate
 core_fate records core i = slice_index_or (option_map_or (λ (kept : CoreRecord). kept.fates) (slice_get records core) []) i Late
 
 -- the fate of flip i
-abbrev pub fate_told : List CoreRecord → List Fate → ℕ → Flip → Fate
-fate_told records bus i (Mem turn addr bit) = slice_index_or bus i Late
-fate_told records bus i (Reg core step cell bit) = core_fate records core i
-fate_told records bus i (Tag core step fetch way set byte bit) = core_fate records core i
-fate_told records bus i (Line core step fetch way set byte bit) = core_fate records core i
+abbrev pub fate_recorded : List CoreRecord → List Fate → ℕ → Flip → Fate
+fate_recorded records bus i (Mem turn addr bit) = slice_index_or bus i Late
+fate_recorded records bus i (Reg core step cell bit) = core_fate records core i
+fate_recorded records bus i (Tag core step fetch way set byte bit) = core_fate records core i
+fate_recorded records bus i (Line core step fetch way set byte bit) = core_fate records core i
 
 -- those of all flips, the first of which has this number
-abbrev pub fates_told : List CoreRecord → List Fate → ℕ → List Flip → List Fate
-fates_told records bus i [] = []
-fates_told records bus i (flip ∷ script) = fate_told records bus i flip ∷ fates_told records bus (i + 1) script
+abbrev pub fates_recorded : List CoreRecord → List Fate → ℕ → List Flip → List Fate
+fates_recorded records bus i [] = []
+fates_recorded records bus i (flip ∷ script) = fate_recorded records bus i flip ∷ fates_recorded records bus (i + 1) script

@@ -1,15 +1,17 @@
 -- The trace that is gathered from the records of cores and bus, and from which records it can be.
-use Rattle.std.specs.Prelude.{◌≤◌, ◌*◌, List, length, map}
+use Rattle.std.specs.Prelude.{◌≡◌, ◌≤◌, ◌*◌, true, List, length, map}
+use Rattle.std.specs.List.{list_all}
 use Rattle.lf_model.specs.Ledger.Account.{without_length}
+use Rattle.lf_model.specs.Promise.Regular.{is_regular_word}
 use Rattle.lf_model.specs.Records.AllRecords.{AreRecordsOk}
 use Rattle.lf_model.specs.declared.record.CoreRecord.{CoreRecord}
 use Rattle.lf_model.specs.declared.setup.Setup.{Setup}
 use Rattle.lf_model.specs.declared.trace.CoreResult.{CoreResult}
 use Rattle.lf_model.specs.declared.trace.Trace.{Trace}
 use Rattle.lf_model.specs.declared.trace.Word2.{Word2}
-use Rattle.run_trace.specs.Fates.{fates_told}
+use Rattle.run_trace.specs.Fates.{fates_recorded}
 use Rattle.run_trace.specs.Order.{order_of}
-use Rattle.run_trace.specs.declared.record.BusRecord.{BusRecord}
+use Rattle.ahb_bus.specs.declared.record.BusRecord.{BusRecord}
 
 abbrev pub result_kept : CoreRecord → CoreResult
 result_kept kept = kept.result
@@ -21,7 +23,7 @@ gathered setup records bus watch = record {
   ahb_status = bus.ahb_status;
   transfers = map without_length bus.transfers;
   order = order_of records bus.log.entries;
-  fates = fates_told records bus.fates 0 setup.flips;
+  fates = fates_recorded records bus.fates 0 setup.flips;
   watch = watch;
 }
 
@@ -34,7 +36,8 @@ pub record IsWithinLimits (setup : Setup) : Type 0 where
   pub few_flips : length setup.flips ≤ 65536
   pub few_words : length setup.config.watch ≤ 64
 
--- records of a run of this setup, all of them right together
+-- records of a run of this setup, all of them right together; fit: the watched words are numbers of 32 bits, as the code has them
 pub record IsGatherable (setup : Setup) (records : List CoreRecord) (bus : BusRecord) (watch : List Word2) : Type 0 where
   pub limits : IsWithinLimits setup
   pub right : AreRecordsOk setup records bus.log.entries bus.transfers (record { addr = bus.ahb_addr; status = bus.ahb_status }) bus.fates watch
+  pub fit : list_all is_regular_word watch ≡ true

@@ -1,4 +1,4 @@
--- The one order in which the operations of all cores stand: each store and atomic by its entry of the log, each load behind the
+-- The one order in which the operations of all cores stand: each store and atomic by its entry of the log, each load after the
 -- last entry that its core had seen, and the lost stores last.
 use Rattle.std.specs.Prelude.{ℕ, ◌+◌, ◌==◌, ◌&&◌, ◌++◌, Bool, List, [], ◌∷◌, filter, map, slice_get, slice_index, slice_index_or}
 use Rattle.std.specs.Option.{option_map_or}
@@ -39,7 +39,7 @@ operation_of records e = slice_index_or (ops_of records e.core) e.k no_operation
 
 -- ---- the order
 
--- before each of these those of its place, and after the last one those of the place behind it
+-- before each of these those of its place, and after the last one those of the place after it
 abbrev pub woven : {X : Type 0} → (ℕ → List X) → ℕ → List X → List X
 woven at place [] = at place
 woven at place (x ∷ xs) = at place ++ x ∷ woven at (place + 1) xs

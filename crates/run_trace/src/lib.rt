@@ -1,9 +1,13 @@
-//! The trace of a run, from the records that its cores and its bus leave: the one order of all memory operations.
+//! The trace of a run, gathered from the records that its cores and its bus leave.
 //!
-//! So far the crate has the types of these records, the definition of the order, and the proofs that it keeps the rules of total
-//! store order. No function makes it yet.
+//! `gather` calls no core and no bus: it reads their records, and puts the memory operations of all cores into one order.
 #![tactic(auto)]
 
+mod fates;
+mod order;
+mod parts;
 mod record;
+mod trace;
 
-pub use record::{BusRecord, Records};
+pub use record::Records;
+pub use trace::gather;
