@@ -13,9 +13,11 @@ mod log;
 mod memory;
 mod numbers;
 mod products;
+mod registers;
 mod status;
 mod text;
 mod traps;
+mod turns;
 mod windows;
 mod word_code;
 
