@@ -14,6 +14,7 @@ mod memory;
 mod numbers;
 mod products;
 mod registers;
+mod scrubbing;
 mod status;
 mod text;
 mod traps;
