@@ -1,6 +1,5 @@
-ghost use Rattle.std.specs.Prelude.{◌≡◌, ◌<◌, ◌≤◌, [], true, false, length, IfOk};
+ghost use Rattle.std.specs.Prelude.{◌≡◌, ◌≤◌, [], false, length, IfOk};
 ghost use Rattle.std.specs.List.{AllByRecursion};
-ghost use Rattle.ahb_bus.specs.BusOk.{BusOk};
 ghost use Rattle.bus_memory.specs.Strikes.{AimsAt};
 ghost use Rattle.lf_model.specs.Bus.Walk.{walk_after};
 ghost use Rattle.lf_model.specs.Start.{ram_first};
