@@ -1,1 +1,3 @@
 pub mod LateLemmas
+pub mod MemoryLemmas
+pub mod TurnLemmas

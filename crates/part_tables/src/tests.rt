@@ -13,9 +13,12 @@ mod log;
 mod memory;
 mod numbers;
 mod products;
+mod registers;
+mod scrubbing;
 mod status;
 mod text;
 mod traps;
+mod turns;
 mod windows;
 mod word_code;
 
