@@ -99,12 +99,14 @@ module _ (setup : Setup) (core : ℕ) where
     waits = refl;
     has_seen = seen_at_start;
     lines = lines_at_start;
+    unnamed = refl;
   }
 
   pub ok_at_start : CoreOk (start_value setup core) [] []
   ok_at_start = record {
     log_length = refl;
     turns = refl;
+    in_memory = refl;
     is_seat = seat_at_start;
     has_run = run_at_start;
     right_turns = search;

@@ -1,5 +1,6 @@
 -- What holds of a core that has seen these entries of the log and these transfers on the bus, as its last turn ended.
-use Rattle.std.specs.Prelude.{ℕ, ◌≡◌, ◌-◌, ◌<◌, ◌++◌, List, length, map, drop, filter}
+use Rattle.std.specs.Prelude.{ℕ, ◌≡◌, ◌-◌, ◌<◌, ◌++◌, true, List, [], length, map, drop, filter}
+use Rattle.std.specs.List.{list_all}
 use Rattle.core_laws.specs.RunSoFar.{HasRun}
 use Rattle.core_laws.specs.SeenSoFar.{HasSeenSoFar}
 use Rattle.core_laws.specs.StepsSoFar.{HasStepsSoFar}
@@ -13,6 +14,7 @@ use Rattle.core_parts.specs.declared.phase.Phase.{Phase}
 use Rattle.core_parts.specs.declared.phase.Phase.TheVariants.{Between, Begun, Needs, Ended}
 use Rattle.lf_model.specs.Ledger.Steps.{own_transfers, in_steps, past_steps, HasSteps}
 use Rattle.lf_model.specs.Operation.{stores, made}
+use Rattle.lf_model.specs.Records.BusRecord.{is_in_memory}
 use Rattle.lf_model.specs.Records.OwnTurns.{OwnTurnAt, words_named}
 use Rattle.lf_model.specs.Records.SeenOrder.{HasSeen}
 use Rattle.lf_model.specs.Start.{initial_byte}
@@ -39,13 +41,14 @@ within_steps v transfers = in_steps v.steps (own_transfers v.arch.core transfers
 abbrev pub past_its_steps : CoreValue → List Transfer → List Transfer
 past_its_steps v transfers = past_steps v.steps (own_transfers v.arch.core transfers)
 
--- its steps and transfers, the stores that wait, what it has seen of memory order, and the lines of its caches
+-- its steps and transfers, the stores that wait, what it has seen of memory order, and the lines of its caches; no stop names a word yet
 pub record GoesOn (v : CoreValue) (log : List Entry) (transfers : List Transfer) : Type 0 where
   pub in_order : own_transfers v.arch.core transfers ≡ within_steps v transfers ++ past_its_steps v transfers
   pub has_steps : HasStepsSoFar v.setup.config.steps v.steps v.arch.n (length v.ports.waiting) (within_steps v transfers) (past_its_steps v transfers)
   pub waits : v.ports.waiting ≡ map waiting_of (buffer_of v)
   pub has_seen : HasSeenSoFar (initial_byte v.setup.image) v.arch.core v.ops v.seen_by log (buffer_of v)
   pub lines : LinesAre v log (buffer_of v)
+  pub unnamed : v.named ≡ []
 
 -- ---- a core that has ended
 
@@ -62,11 +65,12 @@ StandsBy v log transfers (Ended end) = HasEnded v end log transfers
 
 -- ---- the whole
 
--- the lists are as long as the core remembers; its parts are its seat of the course; its run is that of the image's code; each of
--- its transfers is the one that its step needed
+-- the lists are as long as the core remembers, and the transfers lie in memory; its parts are its seat of the course; its run is
+-- that of the image's code; each of its transfers is the one that its step needed
 pub record CoreOk (v : CoreValue) (log : List Entry) (transfers : List Transfer) : Type 0 where
   pub log_length : length log ≡ v.log_seen
   pub turns : length transfers ≡ v.turns_seen
+  pub in_memory : list_all (is_in_memory v.setup.config.ram) transfers ≡ true
   pub is_seat : IsSeat v (ground_so_far v) (seat (ground_so_far v) transfers v.steps)
   pub has_run : HasRun (ground_so_far v) (seat (ground_so_far v) transfers v.steps)
   pub right_turns : (turn : ℕ) → turn < length transfers → OwnTurnAt (ground_so_far v) transfers turn
