@@ -2,3 +2,13 @@ pub mod LocalSeat
 pub mod TurnSeat
 pub mod StopSeat
 pub mod Starts
+pub mod Running
+pub mod Ended
+pub mod LaterSeat
+pub mod Reaches
+pub mod StepParts
+pub mod Begins
+pub mod Completing
+pub mod LocalGround
+pub mod LocalSteps
+pub mod LocalEnds

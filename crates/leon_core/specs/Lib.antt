@@ -1,3 +1,4 @@
+pub mod Completes
 pub mod Lines
 pub mod Result
 pub mod CoreOk
