@@ -1,5 +1,5 @@
 -- A step begins: its flips strike the arrays. It stays begun where it needs a turn.
-use Rattle.std.proofs.Common.{◌≡◌, ◌∙◌, ℕ, List, length, map, filter, refl, ap, sym, subst}
+use Rattle.std.proofs.Common.{◌≡◌, ◌∙◌, ◌<◌, ℕ, List, length, map, filter, refl, ap, sym, subst}
 use Rattle.core_parts.specs.CoreValue.{CoreValue}
 use Rattle.core_parts.specs.PortState.{Waiting, PortState, arrays_in}
 use Rattle.core_parts.specs.Seat.{seat, ArraysAre, IsSeat, NeedsTurn}
@@ -15,7 +15,8 @@ use Rattle.lf_model.specs.declared.bus.Entry.{Entry}
 use Rattle.lf_model.specs.declared.bus.Transfer.{Transfer}
 use Rattle.lf_model.specs.declared.step.Turn.{Turn}
 
-module _ (old : CoreValue) (log : List Entry) (ts : List Transfer) (h : CoreOk old log ts) (between : old.phase ≡ Between) (p : PortState) (waiting : p.waiting ≡ old.ports.waiting) where
+module _ (old : CoreValue) (log : List Entry) (ts : List Transfer) (h : CoreOk old log ts) (between : old.phase ≡ Between)
+    (left : old.steps < old.setup.config.steps) (p : PortState) (waiting : p.waiting ≡ old.ports.waiting) where
   -- these ports, in a step that is begun
   abbrev pub with_ports : Phase → CoreValue
   with_ports phase = record old { ports = p; phase = phase }
@@ -40,7 +41,7 @@ module _ (old : CoreValue) (log : List Entry) (ts : List Transfer) (h : CoreOk o
   begins struck lines =
       let s = now.is_seat in
       let arrays : arrays_in old.ports ≡ place.arrays = rw between at s.arrays in
-      holds_on (with_ports Begun) log ts tt (record {
+      holds_on (with_ports Begun) log ts tt left (record {
         log_length = now.log_length;
         turns = now.turns;
         in_memory = now.in_memory;
@@ -66,7 +67,7 @@ module _ (old : CoreValue) (log : List Entry) (ts : List Transfer) (h : CoreOk o
   pub needs : (turn : Turn) → NeedsTurn (ground_running old) place turn (arrays_in p) → LinesAre (with_ports (Needs turn)) log (buffer_of old) → CoreOk (with_ports (Needs turn)) log ts
   needs turn asked lines =
       let s = now.is_seat in
-      holds_on (with_ports (Needs turn)) log ts tt (record {
+      holds_on (with_ports (Needs turn)) log ts tt left (record {
         log_length = now.log_length;
         turns = now.turns;
         in_memory = now.in_memory;

@@ -8,7 +8,7 @@ use Rattle.core_parts.specs.declared.phase.Phase.{Phase}
 use Rattle.core_parts.specs.declared.phase.Phase.TheVariants.{Ended}
 use Rattle.core_laws.specs.RunSoFar.{HasRun}
 use Rattle.leon_core.proofs.LaterSeat.{Reaches}
-use Rattle.leon_core.specs.CoreOk.{HasEnded, StandsBy, CoreOk}
+use Rattle.leon_core.specs.CoreOk.{HasEnded, StandsBy, LeftBy, CoreOk}
 use Rattle.leon_core.specs.Result.{result_of}
 use Rattle.lf_model.specs.Course.Core.{Ground, given_by, ground_of}
 use Rattle.lf_model.specs.Course.Progress.{Progress}
@@ -42,6 +42,9 @@ module _ (v : CoreValue) (end : CoreEnd) (log : List Entry) (ts : List Transfer)
   as_stands : (phase : Phase) → phase ≡ Ended end → HasEnded v end log ts → StandsBy v log ts phase
   as_stands phase is h = rw is h
 
+  none_begun : (phase : Phase) → phase ≡ Ended end → LeftBy v phase
+  none_begun phase is = rw is tt
+
   pub holds_ended : (k : Progress) → v.phase ≡ Ended end → EndsOn k → CoreOk v log ts
   holds_ended k phase h = record {
     log_length = h.log_length;
@@ -55,4 +58,5 @@ module _ (v : CoreValue) (end : CoreEnd) (log : List Entry) (ts : List Transfer)
       has_seen = h.has_seen;
       named = h.named ∙ ap (λ g. words_named g ts) (sym (ground_is v.phase phase));
     });
+    left = none_begun v.phase phase;
   }

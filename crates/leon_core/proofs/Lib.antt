@@ -12,3 +12,9 @@ pub mod Completing
 pub mod LocalGround
 pub mod LocalSteps
 pub mod LocalEnds
+pub mod TurnReach
+pub mod TurnParts
+pub mod TurnGround
+pub mod Turns
+pub mod TurnTargets
+pub mod RightTurn

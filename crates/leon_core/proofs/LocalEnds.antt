@@ -66,7 +66,7 @@ module _ (old new : CoreValue) (log : List Entry) (ts : List Transfer) (more : L
       is_seat = seated;
       has_steps = rw (keeps.parts.setup, own_then old new log ts more h between left keeps ops) steps;
       has_seen = rw (keeps.parts.setup, keeps.parts.core) (seen_end _ old.arch.core new.ops new.seen_by log sees.has_seen);
-      named = keeps.parts.named ∙ (here.goes_on.unnamed ∙ sym (names_none (ground end) ts nowhere));
+      named = keeps.named ∙ (here.goes_on.unnamed ∙ sym (names_none (ground end) ts nowhere));
     })
 
   -- it enters error mode

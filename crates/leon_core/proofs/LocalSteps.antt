@@ -11,7 +11,7 @@ use Rattle.leon_core.proofs.LaterSeat.{Reaches}
 use Rattle.leon_core.proofs.LocalGround.{place_of, ground_with, now, running_new, limit_new, reaches_then, steps_then, parts_then}
 use Rattle.leon_core.proofs.LocalSeat.{NeedsNone, retired}
 use Rattle.leon_core.proofs.Reaches.{going, seat_between, one_step}
-use Rattle.leon_core.proofs.Running.{ground_running, RunsOn, holds_on, unended_between}
+use Rattle.leon_core.proofs.Running.{ground_running, RunsOn, holds_on, unended_between, none_begun}
 use Rattle.leon_core.proofs.StepParts.{steps_as}
 use Rattle.leon_core.specs.Completes.{KeepsTurns}
 use Rattle.leon_core.specs.CoreOk.{within_steps, past_its_steps, CoreOk}
@@ -50,7 +50,7 @@ module _ (old new : CoreValue) (log : List Entry) (ts : List Transfer) (more : L
 
     -- it goes on, with these stores waiting
     pub steps_on : (buffer : List Entry) → Sees old new log buffer → length new.ports.waiting ≤ 8 → LinesAre new log buffer → CoreOk new log ts
-    steps_on buffer sees few lines = holds_on new log ts (unended_between new.phase phase) (record {
+    steps_on buffer sees few lines = holds_on new log ts (unended_between new.phase phase) (none_begun new new.phase phase) (record {
       log_length = here.log_length ∙ sym r.seen;
       turns = here.turns ∙ sym keeps.turns_seen;
       in_memory = rw keeps.parts.setup here.in_memory;
@@ -62,5 +62,5 @@ module _ (old new : CoreValue) (log : List Entry) (ts : List Transfer) (more : L
           (steps_as _ new.setup.config.steps _ new.steps _ new.arch.n _ (length new.ports.waiting) _ (within_steps old ts) _ (past_its_steps old ts)
           (steps_then old new log ts more h between left keeps ops few)
           (limit_new old new log ts more h between left keeps ops) r.steps r.counted refl refl refl)
-          lines (keeps.parts.named ∙ here.goes_on.unnamed);
+          lines (keeps.named ∙ here.goes_on.unnamed);
     })

@@ -8,7 +8,7 @@ use Rattle.core_parts.specs.Phases.{ground_by, ground_so_far}
 use Rattle.core_parts.specs.Seat.{seat, IsSeat}
 use Rattle.core_parts.specs.declared.phase.Phase.{Phase}
 use Rattle.core_parts.specs.declared.phase.Phase.TheVariants.{Between, Begun, Needs, Ended}
-use Rattle.leon_core.specs.CoreOk.{GoesOn, StandsBy, CoreOk}
+use Rattle.leon_core.specs.CoreOk.{GoesOn, StandsBy, LeftBy, CoreOk}
 use Rattle.lf_model.specs.Course.Core.{Ground, given_by}
 use Rattle.lf_model.specs.Records.BusRecord.{is_in_memory}
 use Rattle.lf_model.specs.Records.OwnTurns.{OwnTurnAt}
@@ -28,6 +28,10 @@ IsUnended (Ended end) = ⊥
 
 pub unended_between : (phase : Phase) → phase ≡ Between → IsUnended phase
 unended_between phase is = rw is tt
+
+-- between steps it makes none
+pub none_begun : (v : CoreValue) (phase : Phase) → phase ≡ Between → LeftBy v phase
+none_begun v phase is = rw is tt
 
 pub unended_begun : (phase : Phase) → phase ≡ Begun → IsUnended phase
 unended_begun phase is = rw is tt
@@ -71,8 +75,8 @@ module _ (v : CoreValue) (log : List Entry) (ts : List Transfer) where
     goes_on = stands_as v.phase is h.stands;
   }
 
-  pub holds_on : IsUnended v.phase → RunsOn → CoreOk v log ts
-  holds_on is h = record {
+  pub holds_on : IsUnended v.phase → LeftBy v v.phase → RunsOn → CoreOk v log ts
+  holds_on is left h = record {
     log_length = h.log_length;
     turns = h.turns;
     in_memory = h.in_memory;
@@ -80,4 +84,5 @@ module _ (v : CoreValue) (log : List Entry) (ts : List Transfer) where
     has_run = subst (λ g. HasRun g (seat g ts v.steps)) (sym (ground_is v.phase is)) h.has_run;
     right_turns = λ turn within. subst (λ g. OwnTurnAt g ts turn) (sym (ground_is v.phase is)) (h.right_turns turn within);
     stands = as_stands v.phase is h.goes_on;
+    left = left;
   }

@@ -111,4 +111,5 @@ module _ (setup : Setup) (core : ℕ) where
     has_run = run_at_start;
     right_turns = search;
     stands = goes_on_at_start;
+    left = tt;
   }

@@ -1,10 +1,10 @@
 -- A core's transfers, in its steps and after its last step.
 use Rattle.std.proofs.Common.{◌≡◌, ◌∙◌, ◌<◌, ◌≤◌, ◌++◌, ℕ, true, false, nat_lt, nat_le, List, [], length, filter, refl, ap, sym, arith}
-use Rattle.std.proofs.lemmas.Bool.{lt-ltb, le-ltb, lt-leb, le-leb}
+use Rattle.std.proofs.lemmas.Bool.{lt-ltb, le-ltb, lt-leb, le-leb, leb-true}
 use Rattle.std.proofs.lemmas.List.{append-nil}
 use Rattle.std.proofs.lemmas.List.Elements.{filter-append}
 use Rattle.std.specs.List.{AllByRecursion as Each}
-use Rattle.core_laws.proofs.ListLemmas.{filter_all}
+use Rattle.core_laws.proofs.ListLemmas.{filter_all, each_passes}
 use Rattle.core_laws.specs.StepsSoFar.{HasStepsSoFar}
 use Rattle.lf_model.proofs.EachLemmas.{each_weaker, filter_none}
 use Rattle.lf_model.specs.Ledger.Steps.{in_steps, past_steps}
@@ -48,3 +48,8 @@ module _ (steps : ℕ) (within past : List Transfer) (below : Each (λ (t : Tran
 pub steps_as : (limit limit' steps steps' n n' waiting waiting' : ℕ) (within within' past past' : List Transfer) → HasStepsSoFar limit steps n waiting within past
     → limit' ≡ limit → steps' ≡ steps → n' ≡ n → waiting' ≡ waiting → within' ≡ within → past' ≡ past → HasStepsSoFar limit' steps' n' waiting' within' past'
 steps_as limit limit' steps steps' n n' waiting waiting' within within' past past' h a b c d e f = rw (a, b, c, d, e, f) h
+
+-- transfers after so many steps are of no earlier one
+pub past_above : (steps : ℕ) (own : List Transfer) → Each (λ (t : Transfer). steps ≤ t.step) (past_steps steps own)
+past_above steps own = each_weaker (λ (t : Transfer). nat_le steps t.step ≡ true) (λ (t : Transfer). steps ≤ t.step) (past_steps steps own)
+    (λ t is. leb-true steps t.step is) (each_passes (λ (t : Transfer). nat_le steps t.step) own)

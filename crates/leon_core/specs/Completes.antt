@@ -6,11 +6,10 @@ use Rattle.lf_model.specs.Course.Core.{is_store}
 use Rattle.lf_model.specs.Effect.{Access, operation_kind}
 use Rattle.lf_model.specs.declared.trace.Op.{Op}
 
--- the setup, the core's number and the word that its stop names stay
+-- the setup and the core's number stay
 pub record Keeps (old new : CoreValue) : Type 0 where
   pub setup : new.setup ≡ old.setup
   pub core : new.arch.core ≡ old.arch.core
-  pub named : new.named ≡ old.named
 
 -- the next operation, which an instruction makes by this access
 abbrev pub op_of : CoreValue → Access → ℕ → ℕ → Op
@@ -42,7 +41,8 @@ pub record Completes (o : Op) (old new : CoreValue) : Type 0 where
   pub seen_by : new.seen_by ≡ old.seen_by ++ new.log_seen ∷ []
   pub waiting : new.ports.waiting ≡ (if is_store o then old.ports.waiting ++ waits_as o ∷ [] else old.ports.waiting)
 
--- a step without a turn sees no transfer
+-- a step without a turn sees no transfer, and names no word
 pub record KeepsTurns (old new : CoreValue) : Type 0 where
   pub parts : Keeps old new
   pub turns_seen : new.turns_seen ≡ old.turns_seen
+  pub named : new.named ≡ old.named

@@ -63,10 +63,18 @@ StandsBy v log transfers Begun = GoesOn v log transfers
 StandsBy v log transfers (Needs turn) = GoesOn v log transfers
 StandsBy v log transfers (Ended end) = HasEnded v end log transfers
 
+-- ---- a step that is begun
+
+abbrev pub LeftBy : CoreValue → Phase → Type 0
+LeftBy v Between = Unit {0}
+LeftBy v Begun = v.steps < v.setup.config.steps
+LeftBy v (Needs turn) = v.steps < v.setup.config.steps
+LeftBy v (Ended end) = Unit {0}
+
 -- ---- the whole
 
 -- the lists are as long as the core remembers, and the transfers lie in memory; its parts are its seat of the course; its run is
--- that of the image's code; each of its transfers is the one that its step needed
+-- that of the image's code; each of its transfers is the one that its step needed; a step is begun only where one is left
 pub record CoreOk (v : CoreValue) (log : List Entry) (transfers : List Transfer) : Type 0 where
   pub log_length : length log ≡ v.log_seen
   pub turns : length transfers ≡ v.turns_seen
@@ -75,3 +83,4 @@ pub record CoreOk (v : CoreValue) (log : List Entry) (transfers : List Transfer)
   pub has_run : HasRun (ground_so_far v) (seat (ground_so_far v) transfers v.steps)
   pub right_turns : (turn : ℕ) → turn < length transfers → OwnTurnAt (ground_so_far v) transfers turn
   pub stands : StandsBy v log transfers v.phase
+  pub left : LeftBy v v.phase

@@ -2,4 +2,5 @@ pub mod Completes
 pub mod Lines
 pub mod Result
 pub mod CoreOk
+pub mod Makes
 pub mod Calls
