@@ -18,3 +18,6 @@ pub mod TurnGround
 pub mod Turns
 pub mod TurnTargets
 pub mod RightTurn
+pub mod RightLater
+pub mod TurnSees
+pub mod MayTurns
