@@ -21,3 +21,4 @@ pub mod RightTurn
 pub mod RightLater
 pub mod TurnSees
 pub mod MayTurns
+pub mod BusSteps
