@@ -22,3 +22,4 @@ pub mod RightLater
 pub mod TurnSees
 pub mod MayTurns
 pub mod BusSteps
+pub mod StopTurns

@@ -1,7 +1,8 @@
 -- A turn that a core may make is the one that its step needs, a drain by the schedule, or one after the last step: its transfer is right.
 use Rattle.std.proofs.Common.{◌≡◌, ◌∙◌, ◌+◌, ◌<◌, ◌≤◌, ◌==◌, ℕ, Bool, true, false, nat_le, nat_lt, List, length, map, filter, refl, ap, sym, subst, arith, inl, inr, if◌then◌else◌}
-use Rattle.std.proofs.lemmas.Bool.{cases_lt, lt-ltb, lt-leb, le-leb, ltb-false, eqb-false}
+use Rattle.std.proofs.lemmas.Bool.{cases_lt, lt-ltb, lt-leb, le-leb, ltb-false, eqb-false, eq-eqb}
 use Rattle.core_parts.specs.CoreValue.{CoreValue}
+use Rattle.core_parts.specs.Needs.{kind_of, why_of}
 use Rattle.core_parts.specs.Phases.{state_by, is_drained, state_of_core}
 use Rattle.core_parts.specs.PortState.{arrays_in}
 use Rattle.core_parts.specs.Seat.{ArraysAre}
@@ -21,10 +22,12 @@ use Rattle.lf_model.specs.Course.Core.{Ground}
 use Rattle.lf_model.specs.Course.Course.{stored_at, with_unseen}
 use Rattle.lf_model.specs.Course.Progress.{Progress, store_waits}
 use Rattle.lf_model.specs.Course.Turn.{is_past_steps}
+use Rattle.lf_model.specs.Ledger.Steps.{is_last_drain}
 use Rattle.lf_model.specs.Records.OwnTurns.{IsRightTurn}
 use Rattle.lf_model.specs.Start.{initial_byte}
 use Rattle.lf_model.specs.declared.bus.Entry.{Entry}
 use Rattle.lf_model.specs.declared.bus.Transfer.{Transfer}
+use Rattle.lf_model.specs.declared.bus.TurnKind.TheVariants.{Store}
 use Rattle.lf_model.specs.declared.bus.Why.TheVariants.{End, Sched}
 use Rattle.lf_model.specs.declared.step.Turn.{Turn}
 use Rattle.lf_model.specs.declared.step.Turn.TheVariants.{Fetch, Load, Atomic, Drain, Snoop}
@@ -101,3 +104,21 @@ module _ (v : CoreValue) (log : List Entry) (ts us : List Transfer) (t : Transfe
 
   pub may_right : (turn : Turn) → IsUnended v.phase → MayTurn v turn → Makes g at v turn t → IsRightTurn g t at
   may_right turn unended may m = right_by turn v.phase refl unended h.is_seat.arrays left may m
+
+-- ---- a turn after the last step
+
+last_by : (v : CoreValue) (turn : Turn) (t : Transfer) (phase : Phase) → LeftBy v phase → MayTurnBy v turn phase → v.phase ≡ phase → v.setup.config.steps ≤ v.steps → turn ≡ Drain End × IsDraining v
+last_by v turn t (Needs asked) below may is past = absurd (omega (arith, below, past))
+last_by v turn t Begun below may is past = absurd (omega (arith, below, past))
+last_by v turn t Between below may is past = (may.0, is_draining v (ap (state_by v) (sym is) ∙ may.1))
+last_by v turn t (Ended end) below may is past = absurd may
+
+-- is the drain of a store
+pub last_drains : (v : CoreValue) (turn : Turn) (t : Transfer) → LeftBy v v.phase → MayTurn v turn → v.setup.config.steps ≤ v.steps → turn ≡ Drain End × IsDraining v
+last_drains v turn t left may past = last_by v turn t v.phase left may refl past
+
+pub drain_last : (v : CoreValue) (turn : Turn) (t : Transfer) → turn ≡ Drain End → t.kind ≡ kind_of turn → t.why ≡ why_of turn → t.step ≡ v.setup.config.steps → is_last_drain v.setup.config.steps t ≡ true
+drain_last v turn t is kind why step =
+    let store : t.kind ≡ Store = kind ∙ ap kind_of is in
+    let end : t.why ≡ End = why ∙ ap why_of is in
+    rw (store, end, eq-eqb t.step v.setup.config.steps step) refl

@@ -56,7 +56,7 @@ module _ (g : Ground) where
 
   -- ---- its own turn
 
-  is_at : (ts : List Transfer) (n : ℕ) (k : Progress) → Reaches g ts n k → IsAt g ts (n - (course g ts).steps) k
+  pub is_at : (ts : List Transfer) (n : ℕ) (k : Progress) → Reaches g ts n k → IsAt g ts (n - (course g ts).steps) k
   is_at ts n k r = subst (IsAt g ts (n - (course g ts).steps)) r.at (at_seat g ts n)
 
   none_left : (n : ℕ) → n - n ≡ 0
