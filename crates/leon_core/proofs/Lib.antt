@@ -23,3 +23,5 @@ pub mod TurnSees
 pub mod MayTurns
 pub mod BusSteps
 pub mod StopTurns
+pub mod StopSees
+pub mod LimitEnds

@@ -4,6 +4,7 @@ use Rattle.std.proofs.lemmas.Bool.{eq-eqb}
 use Rattle.std.proofs.lemmas.List.{append-nil}
 use Rattle.std.specs.List.{AllByRecursion as Each}
 use Rattle.core_laws.proofs.Ends.{names_none}
+use Rattle.core_laws.proofs.LostAccount.{reports_none}
 use Rattle.core_laws.proofs.NextStep.{no_stop_at_halt}
 use Rattle.core_laws.proofs.SeenEnd.{seen_end}
 use Rattle.core_laws.proofs.StepsEnd.{ends_halted, ends_at_register}
@@ -24,11 +25,12 @@ use Rattle.leon_core.proofs.StopSeat.{stopped_by_cell}
 use Rattle.leon_core.specs.Completes.{KeepsTurns}
 use Rattle.leon_core.specs.CoreOk.{within_steps, past_its_steps, CoreOk}
 use Rattle.leon_core.specs.Result.{result_of}
-use Rattle.lf_model.specs.Course.Core.{Ground, r_register_access_error, is_stop_at}
+use Rattle.lf_model.specs.Course.Core.{Ground, r_register_access_error, is_stop_at, is_store_stop}
 use Rattle.lf_model.specs.Course.LocalStep.{local_step}
 use Rattle.lf_model.specs.Course.Outcome.Need.{NoTurn, RegisterStop}
 use Rattle.lf_model.specs.Course.Progress.{next_needs}
 use Rattle.lf_model.specs.Ledger.Steps.{own_transfers, HasSteps}
+use Rattle.lf_model.specs.Results.{IsEnd}
 use Rattle.lf_model.specs.declared.bus.Entry.{Entry}
 use Rattle.lf_model.specs.declared.bus.Transfer.{Transfer}
 use Rattle.lf_model.specs.declared.trace.CoreEnd.{CoreEnd}
@@ -57,15 +59,20 @@ module _ (old new : CoreValue) (log : List Entry) (ts : List Transfer) (more : L
 
     -- the core ends so, with no store waiting, and none of its transfers is the place of its end
     ends : IsSeat new (ground end) (local_step (ground end) (place_of old ts)) → new.phase ≡ Ended end → new.log_seen ≡ old.log_seen → Sees old new log []
-        → HasSteps old.setup (result_of new end) (within_steps old ts ++ past_its_steps old ts) → ((turn : ℕ) → is_stop_at turn end ≡ false) → CoreOk new log ts
-    ends seated phase seen sees steps nowhere = holds_ended new end log ts (local_step (ground end) (place_of old ts)) phase (record {
+        → HasSteps old.setup (result_of new end) (within_steps old ts ++ past_its_steps old ts) → ((turn : ℕ) → is_stop_at turn end ≡ false) → IsEnd old.setup new.steps end → is_store_stop end ≡ false → CoreOk new log ts
+    ends seated phase seen sees steps nowhere is_end no_store = holds_ended new end log ts (local_step (ground end) (place_of old ts)) phase (record {
       log_length = here.log_length ∙ sym seen;
       turns = here.turns ∙ sym keeps.turns_seen;
       in_memory = rw keeps.parts.setup here.in_memory;
       reaches = come;
       is_seat = seated;
+      is_end = rw keeps.parts.setup is_end;
+      within = omega (arith, made, left, limit_new old new log ts more h between left keeps ops);
+      none_wait = sees.waits;
       has_steps = rw (keeps.parts.setup, own_then old new log ts more h between left keeps ops) steps;
       has_seen = rw (keeps.parts.setup, keeps.parts.core) (seen_end _ old.arch.core new.ops new.seen_by log sees.has_seen);
+      none_lost = λ kind. sees.has_seen.none_lost;
+      lost = rw no_store (sym (reports_none new.ops sees.has_seen.none_lost));
       named = keeps.named ∙ (here.goes_on.unnamed ∙ sym (names_none (ground end) ts nowhere));
     })
 
@@ -81,7 +88,7 @@ module _ (old new : CoreValue) (log : List Entry) (ts : List Transfer) (more : L
       }) r phase)
       phase r.seen sees
       (ends_halted old.setup (result_of new (Halt tt_)) old.steps old.arch.n (length old.ports.waiting) (within_steps old ts) (past_its_steps old ts) here.goes_on.has_steps left made tt_ refl r.counted)
-      (λ turn. refl)
+      (λ turn. refl) tt refl
 
   -- a bad register cell stops it
   pub stops : (cell syn : ℕ) → next_needs (ground_running old) (place_of old ts) (tried_at (ground_running old) (place_of old ts)).outcome ≡ RegisterStop cell
@@ -96,4 +103,4 @@ module _ (old new : CoreValue) (log : List Entry) (ts : List Transfer) (more : L
       }) r phase)
       phase r.seen sees
       (ends_at_register old.setup (result_of new end) old.steps old.arch.n (length old.ports.waiting) (within_steps old ts) (past_its_steps old ts) here.goes_on.has_steps left made refl r.counted)
-      (λ turn. register_at_no_turn end turn refl)
+      (λ turn. register_at_no_turn end turn refl) tt refl

@@ -1,5 +1,5 @@
 -- A turn that meets a bad word which it wants stops the core, and keeps all that holds of it.
-use Rattle.std.proofs.Common.{◌≡◌, ◌∙◌, ◌+◌, ◌-◌, ◌*◌, ◌<◌, ◌≤◌, ◌==◌, ◌++◌, ◌&&◌, ◌||◌, ℕ, Bool, true, false, not, nat_le, nat_lt, List, [], ◌∷◌, Option, Some, None, length, refl, ap, sym, subst, arith, inl, inr, if◌then◌else◌}
+use Rattle.std.proofs.Common.{◌≡◌, ◌∙◌, ◌+◌, ◌-◌, ◌*◌, ◌<◌, ◌≤◌, ◌==◌, ◌++◌, ◌&&◌, ◌||◌, ℕ, Bool, true, false, not, nat_le, nat_lt, List, [], ◌∷◌, Option, Some, None, length, filter, refl, ap, sym, subst, arith, inl, inr, if◌then◌else◌}
 use Rattle.std.proofs.lemmas.Bool.{cases_lt, eq-eqb, lt-leb, le-leb, leb-false, and_right}
 use Rattle.std.proofs.lemmas.List.{append-nil, append_assoc}
 use Rattle.std.specs.List.{AllByRecursion as Each, flat_map, find}
@@ -30,14 +30,16 @@ use Rattle.leon_core.specs.Completes.{Keeps}
 use Rattle.leon_core.specs.CoreOk.{within_steps, past_its_steps, CoreOk}
 use Rattle.leon_core.specs.Result.{result_of}
 use Rattle.lf_model.specs.Bus.Words.{word_of}
-use Rattle.lf_model.specs.Course.Core.{Given, Ground, given_by, r_register_access_error, is_register_stop, is_stop_at}
+use Rattle.lf_model.specs.Course.Core.{Given, Ground, given_by, r_register_access_error, is_register_stop, is_stop_at, is_store, is_store_stop}
 use Rattle.lf_model.specs.Course.Course.{stored_at, with_unseen, course}
 use Rattle.lf_model.specs.Course.Progress.{Progress}
 use Rattle.lf_model.specs.Course.Syndromes.{met_bad}
 use Rattle.lf_model.specs.Course.Turned.{own_turn, bad_wanted, turn_wants, turn_trap, retires_by}
 use Rattle.lf_model.specs.Effect.{Effect}
+use Rattle.lf_model.specs.Ledger.CoreAccount.{stores_lost, lost_reported}
 use Rattle.lf_model.specs.Ledger.Steps.{own_transfers, in_steps, is_last_drain, HasSteps}
 use Rattle.lf_model.specs.Names.{same_kind}
+use Rattle.lf_model.specs.Operation.{is_lost}
 use Rattle.lf_model.specs.Records.OwnTurns.{next_effect, IsRightTurn, words_named}
 use Rattle.lf_model.specs.Records.SeenOrder.{HasSeen}
 use Rattle.lf_model.specs.Start.{initial_byte}
@@ -105,6 +107,9 @@ module _ (old new : CoreValue) (seen more : List Entry) (ts us : List Transfer) 
     pub log_length : length log ≡ new.log_seen
     pub turns : length after ≡ new.turns_seen
     pub has_seen : HasSeen (initial_byte old.setup.image) old.arch.core new.ops new.seen_by log
+    pub none_wait : new.ports.waiting ≡ []
+    pub none_lost : is_store_stop end ≡ false → Each (λ o. is_lost o ≡ false) new.ops
+    pub lost : stores_lost ground (own_turn ground t place) ≡ lost_reported (filter is_store new.ops)
     pub named : new.named ≡ record { addr = word_of t.addr + 4 * j; value = Some t.turn } ∷ []
 
   module _ (s : StopShown) where
@@ -237,7 +242,12 @@ module _ (old new : CoreValue) (seen more : List Entry) (ts us : List Transfer) 
       in_memory = rw s.keeps.setup x.in_memory;
       reaches = reached;
       is_seat = seated;
+      is_end = tt;
+      within = omega (arith, bounds.1, same_limit);
+      none_wait = s.none_wait;
       has_steps = rw (s.keeps.setup, own_is) has_steps;
       has_seen = rw (s.keeps.setup, s.keeps.core) s.has_seen;
+      none_lost = s.none_lost;
+      lost = s.lost;
       named = s.named ∙ sym names;
     })

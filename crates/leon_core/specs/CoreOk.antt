@@ -1,6 +1,6 @@
 -- What holds of a core that has seen these entries of the log and these transfers on the bus, as its last turn ended.
-use Rattle.std.specs.Prelude.{ℕ, ◌≡◌, ◌-◌, ◌<◌, ◌++◌, true, List, [], length, map, drop, filter}
-use Rattle.std.specs.List.{list_all}
+use Rattle.std.specs.Prelude.{ℕ, ◌≡◌, ◌-◌, ◌<◌, ◌≤◌, ◌++◌, true, false, List, [], length, map, drop, filter}
+use Rattle.std.specs.List.{AllByRecursion, list_all}
 use Rattle.core_laws.specs.RunSoFar.{HasRun}
 use Rattle.core_laws.specs.SeenSoFar.{HasSeenSoFar}
 use Rattle.core_laws.specs.StepsSoFar.{HasStepsSoFar}
@@ -12,11 +12,14 @@ use Rattle.leon_core.specs.Result.{result_of}
 use Rattle.core_parts.specs.Seat.{seat, IsSeat}
 use Rattle.core_parts.specs.declared.phase.Phase.{Phase}
 use Rattle.core_parts.specs.declared.phase.Phase.TheVariants.{Between, Begun, Needs, Ended}
+use Rattle.lf_model.specs.Course.Core.{is_store, is_store_stop}
+use Rattle.lf_model.specs.Ledger.CoreAccount.{stores_lost, lost_reported}
 use Rattle.lf_model.specs.Ledger.Steps.{own_transfers, in_steps, past_steps, HasSteps}
-use Rattle.lf_model.specs.Operation.{stores, made}
+use Rattle.lf_model.specs.Operation.{stores, is_lost, made}
 use Rattle.lf_model.specs.Records.BusRecord.{is_in_memory}
 use Rattle.lf_model.specs.Records.OwnTurns.{OwnTurnAt, words_named}
 use Rattle.lf_model.specs.Records.SeenOrder.{HasSeen}
+use Rattle.lf_model.specs.Results.{IsEnd}
 use Rattle.lf_model.specs.Start.{initial_byte}
 use Rattle.lf_model.specs.declared.bus.Entry.{Entry}
 use Rattle.lf_model.specs.declared.bus.Transfer.{Transfer}
@@ -52,9 +55,16 @@ pub record GoesOn (v : CoreValue) (log : List Entry) (transfers : List Transfer)
 
 -- ---- a core that has ended
 
+-- its end is right, after no more steps than are allowed, and no store waits; its operations, what it saw and its transfers are those
+-- of its record; the stores that are lost are those that its course loses, and it names the word that its end does
 pub record HasEnded (v : CoreValue) (end : CoreEnd) (log : List Entry) (transfers : List Transfer) : Type 0 where
+  pub is_end : IsEnd v.setup v.steps end
+  pub within : v.steps ≤ v.setup.config.steps
+  pub none_wait : v.ports.waiting ≡ []
   pub has_steps : HasSteps v.setup (result_of v end) (own_transfers v.arch.core transfers)
   pub has_seen : HasSeen (initial_byte v.setup.image) v.arch.core v.ops v.seen_by log
+  pub none_lost : is_store_stop end ≡ false → AllByRecursion (λ o. is_lost o ≡ false) v.ops
+  pub lost : stores_lost (ground_so_far v) (seat (ground_so_far v) transfers v.steps) ≡ lost_reported (filter is_store v.ops)
   pub named : v.named ≡ words_named (ground_so_far v) transfers
 
 abbrev pub StandsBy : CoreValue → List Entry → List Transfer → Phase → Type 0
