@@ -25,3 +25,6 @@ pub mod BusSteps
 pub mod StopTurns
 pub mod StopSees
 pub mod LimitEnds
+pub mod Finishes
+pub mod LeavesAccount
+pub mod Leaves

@@ -188,7 +188,7 @@ module _ (old new : CoreValue) (seen more : List Entry) (ts us : List Transfer) 
 
     own_is : own_transfers new.arch.core after ≡ (within ++ past_them) ++ t ∷ []
     own_is = ap (λ c. own_transfers c after) s.keeps.core
-        ∙ (own_then old.arch.core ts us t x.others (takes old new seen more ts us turn t x).own ∙ ap (λ vs. vs ++ t ∷ []) here.goes_on.in_order)
+        ∙ (own_then old.arch.core ts us x.others t (takes old new seen more ts us turn t x).own ∙ ap (λ vs. vs ++ t ∷ []) here.goes_on.in_order)
 
     no_stop_within : Each (λ (u : Transfer). is_stop_at u.turn end ≡ false) within
     no_stop_within = each_filter (λ (u : Transfer). is_stop_at u.turn end ≡ false) (λ (u : Transfer). nat_lt u.step old.steps) (own_transfers old.arch.core ts) (own_no_stop old.arch.core end ts no_stop)

@@ -18,7 +18,7 @@ use Rattle.lf_model.specs.declared.bus.Why.TheVariants as whys
 
 -- ---- its own
 
-module _ (core : ℕ) (ts us : List Transfer) (t : Transfer) (others : Each (λ (u : Transfer). (core == u.master) ≡ false) us) where
+module _ (core : ℕ) (ts us : List Transfer) (others : Each (λ (u : Transfer). (core == u.master) ≡ false) us) where
   own_none : own_transfers core us ≡ []
   own_none = filter_none (λ (u : Transfer). u.master == core) us
       (each_weaker (λ (u : Transfer). (core == u.master) ≡ false) (λ (u : Transfer). (u.master == core) ≡ false) us
@@ -27,8 +27,8 @@ module _ (core : ℕ) (ts us : List Transfer) (t : Transfer) (others : Each (λ 
   pub own_before : own_transfers core (ts ++ us) ≡ own_transfers core ts
   own_before = filter-append (λ (u : Transfer). u.master == core) ts us ∙ (ap (λ vs. own_transfers core ts ++ vs) own_none ∙ append-nil (own_transfers core ts))
 
-  pub own_then : (core == t.master) ≡ true → own_transfers core ((ts ++ us) ++ t ∷ []) ≡ own_transfers core ts ++ t ∷ []
-  own_then own = own_more core (ts ++ us) t own ∙ ap (λ vs. vs ++ t ∷ []) own_before
+  pub own_then : (t : Transfer) → (core == t.master) ≡ true → own_transfers core ((ts ++ us) ++ t ∷ []) ≡ own_transfers core ts ++ t ∷ []
+  own_then t own = own_more core (ts ++ us) t own ∙ ap (λ vs. vs ++ t ∷ []) own_before
 
 -- ---- in its steps and after them
 

@@ -83,7 +83,7 @@ module _ (old new : CoreValue) (seen : List Entry) (ts us : List Transfer) (t : 
         })
 
     own_is : own_transfers new.arch.core after ≡ (within_steps old ts ++ past_its_steps old ts) ++ t ∷ []
-    own_is = ap (λ c. own_transfers c after) keeps.core ∙ (own_then old.arch.core ts us t x.others x.own ∙ ap (λ vs. vs ++ t ∷ []) h.goes_on.in_order)
+    own_is = ap (λ c. own_transfers c after) keeps.core ∙ (own_then old.arch.core ts us x.others t x.own ∙ ap (λ vs. vs ++ t ∷ []) h.goes_on.in_order)
 
     -- ---- in a step
 
