@@ -28,3 +28,5 @@ pub mod LimitEnds
 pub mod Finishes
 pub mod LeavesAccount
 pub mod Leaves
+pub mod Answering
+pub mod Joined

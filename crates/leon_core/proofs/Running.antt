@@ -46,7 +46,7 @@ module _ (v : CoreValue) (log : List Entry) (ts : List Transfer) where
     pub right_turns : (turn : ℕ) → turn < length ts → OwnTurnAt (ground_running v) ts turn
     pub goes_on : GoesOn v log ts
 
-  ground_is : (phase : Phase) → IsUnended phase → ground_by v phase ≡ ground_running v
+  pub ground_is : (phase : Phase) → IsUnended phase → ground_by v phase ≡ ground_running v
   ground_is Between is = refl
   ground_is Begun is = refl
   ground_is (Needs turn) is = refl

@@ -1,5 +1,5 @@
 -- What the calls of a core ask and promise.
-use Rattle.std.specs.Prelude.{ℕ, ◌≡◌, ◌<◌, ◌==◌, true, false, List, length, take, drop}
+use Rattle.std.specs.Prelude.{ℕ, ◌≡◌, ◌<◌, ◌==◌, true, false, List, length, take, drop, Option, Some, None, if◌then◌else◌}
 use Rattle.std.specs.List.{AllByRecursion, list_all}
 use Rattle.leon_core.specs.CoreOk.{CoreOk}
 use Rattle.core_parts.specs.CoreValue.{CoreValue}
@@ -22,6 +22,7 @@ use Rattle.lf_model.specs.Flips.{syndrome}
 use Rattle.lf_model.specs.Records.BusRecord.{is_in_memory}
 use Rattle.lf_model.specs.Records.OwnTurns.{next_effect}
 use Rattle.lf_model.specs.Records.SeenOrder.{is_entry_of}
+use Rattle.lf_model.specs.State.{State}
 use Rattle.lf_model.specs.declared.bus.Entry.{Entry}
 use Rattle.lf_model.specs.declared.bus.Transfer.{Transfer}
 use Rattle.lf_model.specs.declared.bus.Why.TheVariants.{End, Sched}
@@ -61,9 +62,15 @@ syndrome_shown (RegisterStop cell) a = syndrome (history_at cell a.cells)
 syndrome_shown NoTurn a = 0
 syndrome_shown (Asks kind why) a = 0
 
+-- a trap enters error mode where traps are disabled (SPARC V8, chapter 7, traps)
+abbrev pub halts_with : State → Option ℕ → Option ℕ
+halts_with s None = None
+halts_with s (Some tt_) = if s.ctl.et then None else Some tt_
+
 -- by what the instruction came to
 abbrev pub AnswersBy : Ground → Progress → Attempt → Did → Type 0
-AnswersBy g k x answer = IsAnswer (next_needs g k x.outcome) ((next_effect g k).next 0).halt (syndrome_shown (next_needs g k x.outcome) x.arrays) answer
+AnswersBy g k x answer = let need = next_needs g k x.outcome in
+    IsAnswer need (halts_with k.run.state (next_effect g k).trap) (syndrome_shown need x.arrays) answer
 
 abbrev pub Answers : CoreValue → List Transfer → Did → Type 0
 Answers v transfers answer = let g = ground_so_far v in let k = seat g transfers v.steps in AnswersBy g k (tried_at g k) answer
