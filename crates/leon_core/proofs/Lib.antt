@@ -30,3 +30,5 @@ pub mod LeavesAccount
 pub mod Leaves
 pub mod Answering
 pub mod Joined
+pub mod PortLines
+pub mod StepLines
