@@ -32,3 +32,6 @@ pub mod Answering
 pub mod Joined
 pub mod PortLines
 pub mod StepLines
+pub mod TurnLines
+pub mod NoneWaits
+pub mod HitReads
