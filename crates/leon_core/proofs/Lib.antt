@@ -35,3 +35,4 @@ pub mod StepLines
 pub mod TurnLines
 pub mod NoneWaits
 pub mod HitReads
+pub mod HitNumber
