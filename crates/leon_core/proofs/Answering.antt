@@ -1,6 +1,6 @@
 -- The answer of a step is the table's, by what the step needs.
-use Rattle.std.proofs.Common.{◌≡◌, ◌∙◌, ◌<◌, ℕ, Bool, true, false, nat_le, List, Option, Some, None, refl, ap, sym, subst, inl, inr}
-use Rattle.std.proofs.lemmas.Bool.{cases_Bool, lt-leb}
+use Rattle.std.proofs.Common.{◌≡◌, ℕ, Bool, true, false, nat_le, List, Some, None, refl, sym, subst, inl, inr}
+use Rattle.std.proofs.lemmas.Bool.{cases_Bool}
 use Rattle.core_parts.specs.CoreValue.{CoreValue}
 use Rattle.core_parts.specs.Moves.{tried_at}
 use Rattle.core_parts.specs.Needs.{kind_of, why_of}
@@ -13,12 +13,12 @@ use Rattle.lf_model.specs.Caches.Slot.{history_at}
 use Rattle.lf_model.specs.Course.Arrays.{Arrays}
 use Rattle.lf_model.specs.Course.Attempt.{Attempt}
 use Rattle.lf_model.specs.Course.Core.{Ground}
-use Rattle.lf_model.specs.Course.Outcome.{Outcome, Need, step_needs}
+use Rattle.lf_model.specs.Course.Outcome.{Outcome, step_needs}
 use Rattle.lf_model.specs.Course.Outcome.Need.{NoTurn, RegisterStop}
 use Rattle.lf_model.specs.Course.Outcome.Need.{Turn as Asks}
 use Rattle.lf_model.specs.Course.Outcome.Outcome.{NotTried}
 use Rattle.lf_model.specs.Course.Progress.{Progress, next_needs}
-use Rattle.lf_model.specs.Course.Turn.{is_past_steps, turn_attempt, turn_needs}
+use Rattle.lf_model.specs.Course.Turn.{is_past_steps}
 use Rattle.lf_model.specs.Flips.{syndrome}
 use Rattle.lf_model.specs.Names.{same_why}
 use Rattle.lf_model.specs.Records.OwnTurns.{next_effect}

@@ -1,8 +1,8 @@
 -- A step begins: its flips strike the arrays. It stays begun where it needs a turn.
-use Rattle.std.proofs.Common.{◌≡◌, ◌∙◌, ◌<◌, ℕ, List, length, map, filter, refl, ap, sym, subst}
+use Rattle.std.proofs.Common.{◌≡◌, ◌∙◌, ◌<◌, List, length, map, filter, refl, ap, sym, subst}
 use Rattle.core_parts.specs.CoreValue.{CoreValue}
 use Rattle.core_parts.specs.PortState.{Waiting, PortState, arrays_in}
-use Rattle.core_parts.specs.Seat.{seat, ArraysAre, IsSeat, NeedsTurn}
+use Rattle.core_parts.specs.Seat.{seat, NeedsTurn}
 use Rattle.core_parts.specs.declared.phase.Phase.{Phase}
 use Rattle.core_parts.specs.declared.phase.Phase.TheVariants.{Between, Begun, Needs}
 use Rattle.leon_core.proofs.Running.{ground_running, RunsOn, runs_on, holds_on, unended_between}

@@ -1,18 +1,17 @@
 -- A turn on the bus after which a core goes on: from what the core knew, and what came to log and transfers since.
-use Rattle.std.proofs.Common.{◌≡◌, ◌∙◌, ◌+◌, ◌<◌, ◌≤◌, ◌==◌, ◌++◌, ℕ, true, false, List, [], ◌∷◌, None, length, take, drop, refl, ap, sym, subst, arith}
+use Rattle.std.proofs.Common.{◌≡◌, ◌∙◌, ◌+◌, ◌<◌, ◌≤◌, ◌==◌, ◌++◌, ℕ, true, false, List, [], ◌∷◌, None, length, take, drop, refl, ap, sym, subst}
 use Rattle.std.proofs.lemmas.Bool.{eq-eqb}
 use Rattle.std.proofs.lemmas.List.{append-nil, take-append-drop}
-use Rattle.std.specs.List.{AllByRecursion as Each, list_all, flat_map}
+use Rattle.std.specs.List.{AllByRecursion as Each, list_all}
 use Rattle.core_laws.proofs.Given.{given_more}
 use Rattle.core_laws.specs.Running.{with_later}
 use Rattle.core_parts.specs.CoreValue.{CoreValue}
 use Rattle.core_parts.specs.Moves.{Turns, Exchanges}
 use Rattle.core_parts.specs.declared.phase.Phase.TheVariants.{Between}
-use Rattle.leon_core.proofs.LocalGround.{place_of}
 use Rattle.leon_core.proofs.MayTurns.{may_right}
 use Rattle.leon_core.proofs.RightLater.{right_later}
 use Rattle.leon_core.proofs.Running.{ground_running, IsUnended, RunsOn, runs_on}
-use Rattle.leon_core.proofs.TurnGround.{turn_place, ground_later, TakesTurn, running_new}
+use Rattle.leon_core.proofs.TurnGround.{turn_place, TakesTurn, running_new}
 use Rattle.leon_core.proofs.TurnSees.{sees_turn, sees_drain, sees_atomic}
 use Rattle.leon_core.proofs.Completing.{Sees}
 use Rattle.leon_core.proofs.Turns.{Shown, turn_on, exchange_on, drain_on}
@@ -21,9 +20,7 @@ use Rattle.leon_core.specs.Completes.{Keeps, op_of, CompletesNone, Completes}
 use Rattle.leon_core.specs.CoreOk.{buffer_of, CoreOk}
 use Rattle.leon_core.specs.Lines.{LinesAre}
 use Rattle.leon_core.specs.Makes.{Makes}
-use Rattle.lf_model.specs.Course.Core.{Given, Ground, given_by}
-use Rattle.lf_model.specs.Course.Course.{stored_at, with_unseen}
-use Rattle.lf_model.specs.Course.Progress.{Progress}
+use Rattle.lf_model.specs.Course.Core.{given_by}
 use Rattle.lf_model.specs.Course.Turned.{bad_wanted}
 use Rattle.lf_model.specs.Effect.{Access, AccessKind}
 use Rattle.lf_model.specs.Ledger.Steps.{is_last_drain}

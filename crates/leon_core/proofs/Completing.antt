@@ -1,5 +1,5 @@
 -- What a core has seen of memory order as an instruction retires, and the stores that wait then.
-use Rattle.std.proofs.Common.{◌≡◌, ◌∙◌, ◌+◌, ◌-◌, ◌++◌, ℕ, Bool, true, false, List, [], ◌∷◌, length, drop, map, filter, refl, ap, sym, subst, arith, if◌then◌else◌}
+use Rattle.std.proofs.Common.{◌≡◌, ◌∙◌, ◌-◌, ◌++◌, ℕ, Bool, true, List, [], ◌∷◌, length, drop, map, filter, refl, ap, sym, subst, arith, if◌then◌else◌}
 use Rattle.std.proofs.lemmas.List.{drop_at, length-append, length-map, map-append}
 use Rattle.core_laws.proofs.SeenRetired.{seen_load, seen_store}
 use Rattle.core_laws.specs.SeenSoFar.{HasSeenSoFar}

@@ -1,8 +1,8 @@
 -- What holds of a core that has ended, by the ground that knows its end.
-use Rattle.std.proofs.Common.{◌≡◌, ◌∙◌, ◌<◌, ◌≤◌, ℕ, true, false, List, [], length, filter, refl, ap, sym, subst}
+use Rattle.std.proofs.Common.{◌≡◌, ◌∙◌, ◌≤◌, true, false, List, [], length, filter, refl, ap, sym, subst}
 use Rattle.std.specs.List.{AllByRecursion as Each, list_all}
 use Rattle.core_parts.specs.CoreValue.{CoreValue}
-use Rattle.core_parts.specs.Phases.{ground_by, ground_so_far}
+use Rattle.core_parts.specs.Phases.{ground_by}
 use Rattle.core_parts.specs.Seat.{seat, IsSeat}
 use Rattle.core_parts.specs.declared.phase.Phase.{Phase}
 use Rattle.core_parts.specs.declared.phase.Phase.TheVariants.{Ended}

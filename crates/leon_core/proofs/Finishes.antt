@@ -1,39 +1,30 @@
 -- What an ended core leaves is right beside the log and all transfers: its thread and its result.
-use Rattle.std.proofs.Common.{◌≡◌, ◌∙◌, ◌+◌, ◌-◌, ◌<◌, ◌≤◌, ◌==◌, ◌++◌, ◌&&◌, ℕ, zero, suc, Bool, true, false, not, nat_lt, List, [], ◌∷◌, Option, Some, None, IfSome, is_none, length, map, filter, count_by, slice_get, slice_index, refl, ap, sym, subst, arith, inl, inr, ◌⊎◌, if◌then◌else◌}
+use Rattle.std.proofs.Common.{◌≡◌, ◌∙◌, ◌+◌, ◌<◌, ◌≤◌, ◌==◌, ℕ, zero, suc, Bool, true, false, nat_lt, List, [], ◌∷◌, Some, None, IfSome, length, map, count_by, slice_get, slice_index, refl, ap, arith, inl, inr, ◌⊎◌, if◌then◌else◌}
 use Rattle.std.proofs.lemmas.Bool.{cases_Bool, ltb-true, eqb-true}
 use Rattle.std.proofs.lemmas.List.Sums.{count_by-le-length}
 use Rattle.std.proofs.lemmas.Option.{slice_get-map}
-use Rattle.std.specs.Int.{from_bool}
 use Rattle.std.specs.List.{AllByRecursion as Each, range_with_len}
 use Rattle.core_laws.proofs.ListLemmas.{count_append, each_passes}
-use Rattle.core_laws.proofs.Runs.{thread, shows}
+use Rattle.core_laws.proofs.Runs.{shows}
 use Rattle.core_laws.proofs.Steps.{ascends_few}
-use Rattle.core_laws.proofs.StepsEnd.{steps_bound}
-use Rattle.core_laws.specs.RunSoFar.{HasRun}
-use Rattle.core_parts.specs.CoreValue.{CoreValue, seen_of}
+use Rattle.core_parts.specs.CoreValue.{CoreValue}
 use Rattle.core_parts.specs.Phases.{halt_by, state_by, state_of_core}
-use Rattle.core_parts.specs.Seat.{IsSeat, run_of_core}
 use Rattle.core_parts.specs.declared.phase.CoreState.TheVariants as states
 use Rattle.core_parts.specs.declared.phase.Phase.{Phase}
 use Rattle.core_parts.specs.declared.phase.Phase.TheVariants.{Between, Begun, Needs, Ended}
-use Rattle.leon_core.proofs.Ended.{ground_ended, EndsOn}
-use Rattle.leon_core.specs.Result.{cell_shown, register_shown, result_of}
+use Rattle.leon_core.specs.Result.{register_shown, result_of}
 use Rattle.lf_model.proofs.EachLemmas.{each_weaker}
 use Rattle.lf_model.specs.Caches.Slot.{history_at}
 use Rattle.lf_model.specs.Course.Core.{is_store_stop}
-use Rattle.lf_model.specs.Course.Progress.{Progress}
 use Rattle.lf_model.specs.Flips.{is_bad_word}
-use Rattle.lf_model.specs.Ledger.Steps.{own_transfers, in_steps, stops_in_last, retires_instruction, HasSteps}
-use Rattle.lf_model.specs.Operation.{is_lost, made}
-use Rattle.lf_model.specs.Records.CoreRules.{EndedCore, HasThread, ShowsState, ShowsResult}
+use Rattle.lf_model.specs.Ledger.Steps.{in_steps, retires_instruction, HasSteps}
+use Rattle.lf_model.specs.Operation.{is_lost}
+use Rattle.lf_model.specs.Records.CoreRules.{EndedCore}
 use Rattle.lf_model.specs.Results.{halt_of, LosesStores, ShowsRegisters}
-use Rattle.lf_model.specs.Run.{Run}
 use Rattle.lf_model.specs.State.{State, cell, register}
-use Rattle.lf_model.specs.declared.bus.Entry.{Entry}
 use Rattle.lf_model.specs.declared.bus.Transfer.{Transfer}
 use Rattle.lf_model.specs.declared.trace.CoreEnd.{CoreEnd}
 use Rattle.lf_model.specs.declared.trace.CoreEnd.TheVariants.{Halt, Stop, Limit}
-use Rattle.lf_model.specs.declared.trace.CoreResult.{CoreResult}
 use Rattle.lf_model.specs.declared.trace.Op.{Op}
 
 -- ---- the ended core

@@ -1,26 +1,26 @@
 -- The number that a load reads, where it hits, is that of the bytes that the caches hold.
-use Rattle.std.proofs.Common.{◌≡◌, ◌≢◌, ◌∙◌, ◌+◌, ◌-◌, ◌*◌, ◌/◌, ◌%◌, ◌<◌, ◌≤◌, ◌^◌, ◌&&◌, ℕ, zero, suc, Bool, true, false, List, [], ◌∷◌, length, take, drop, fold, slice_index, refl, ap, sym, subst, add-one, arith, inl, inr}
+use Rattle.std.proofs.Common.{◌≡◌, ◌∙◌, ◌+◌, ◌-◌, ◌*◌, ◌/◌, ◌%◌, ◌<◌, ◌≤◌, ◌^◌, ℕ, zero, suc, false, List, [], ◌∷◌, length, take, drop, fold, slice_index, refl, ap, sym, subst, add-one, arith, inl, inr}
 use Rattle.std.proofs.Math.Nat.{pow-suc, div-div-eq-div-mul}
 use Rattle.std.proofs.lemmas.Bool.{cases_Bool, cases_lt}
 use Rattle.std.proofs.lemmas.List.{get_or-drop, get_or-take, length-take-le, length-drop}
-use Rattle.std.specs.List.{AllByRecursion as Each, range_with_len}
+use Rattle.std.specs.List.{AllByRecursion as Each}
 use Rattle.std.specs.Prelude.{Contains}
 use Rattle.leon_core.proofs.HitReads.{Hits, hits, resident}
-use Rattle.lf_model.specs.Caches.Cache.{Cache, slot_at, set_of, matching}
+use Rattle.lf_model.specs.Caches.Cache.{Cache, slot_at, set_of}
 use Rattle.lf_model.specs.Caches.Look.{Checked, checked, check_way, look}
 use Rattle.lf_model.specs.Caches.Look.LookUp.{Hit}
 use Rattle.lf_model.specs.Caches.Slot.{has_struck_tag}
-use Rattle.lf_model.specs.Operation.{byte_of, byte_got, byte_put, touches}
+use Rattle.lf_model.specs.Operation.{byte_of, byte_put, touches}
 use Rattle.lf_model.specs.Value.{Reads, stored}
 use Rattle.lf_model.specs.declared.bus.Entry.{Entry}
 use Rattle.parity_cache.proofs.Bytes.{touched_from}
 use Rattle.parity_cache.proofs.LessResident.{less_checked, holds_less, set_as}
 use Rattle.parity_cache.proofs.SetLemmas.{way_clean, way_others, way_slots, checked_from, checked_next, checked_step}
-use Rattle.parity_cache.proofs.SetPlaces.{InRange, in_range, contained, first_of, set_range, set_within, are_sets, matches}
+use Rattle.parity_cache.proofs.SetPlaces.{InRange, contained, first_of, set_range, set_within, are_sets, matches}
 use Rattle.parity_cache.specs.CacheState.{CacheState, line_at, with_cache}
 use Rattle.parity_cache.specs.Resident.{Holds, IsWellFormed}
 use Rattle.parity_slots.proofs.AccessLemmas.{lies}
-use Rattle.parity_slots.specs.SlotState.{IsAccess, number_of, value_at}
+use Rattle.parity_slots.specs.SlotState.{IsAccess, value_at}
 
 -- ---- a number of bytes
 

@@ -1,18 +1,17 @@
 -- A load that hits reads the bytes that are resident at its address.
-use Rattle.std.proofs.Common.{◌≡◌, ◌∙◌, ◌+◌, ◌-◌, ◌*◌, ◌/◌, ◌%◌, ◌<◌, ◌≤◌, ◌++◌, ◌^◌, ◌==◌, ◌&&◌, ◌||◌, ℕ, zero, suc, Bool, true, false, not, nat_le, nat_lt, List, [], ◌∷◌, Option, Some, None, length, take, drop, fold, slice_index, refl, ap, sym, subst, arith, inl, inr, if◌then◌else◌}
+use Rattle.std.proofs.Common.{◌≡◌, ◌∙◌, ◌+◌, ◌*◌, ◌/◌, ◌%◌, ◌<◌, ◌≤◌, ℕ, zero, suc, Bool, true, false, Option, Some, None, refl, sym, subst, arith, inl, inr}
 use Rattle.std.proofs.lemmas.Bool.{cases_Bool, cases_lt, and_parts}
 use Rattle.std.specs.Prelude.{Contains}
 use Rattle.std.specs.List.{list_all, list_any, range_with_len}
-use Rattle.lf_model.specs.Caches.Cache.{Cache, slot_at, set_of, matching}
-use Rattle.lf_model.specs.Caches.Look.{LookUp, Looked, checked, look_in, look_by, look}
-use Rattle.lf_model.specs.Caches.Look.LookUp.{Hit, Miss}
-use Rattle.lf_model.specs.Caches.Slot.{Slot, history_at, holds, is_valid_word, has_wanted_words, has_struck_byte, has_struck_tag}
+use Rattle.lf_model.specs.Caches.Cache.{Cache, slot_at, matching}
+use Rattle.lf_model.specs.Caches.Look.{checked, look_in, look_by, look}
+use Rattle.lf_model.specs.Caches.Look.LookUp.{Hit}
+use Rattle.lf_model.specs.Caches.Slot.{history_at, is_valid_word, has_wanted_words, has_struck_byte, has_struck_tag}
 use Rattle.lf_model.specs.Flips.{is_struck_byte}
-use Rattle.parity_cache.proofs.LessResident.{less_checked, holds_less}
-use Rattle.parity_cache.proofs.SetPlaces.{Matches, matches, same_set_of, same_holds}
-use Rattle.parity_cache.specs.CacheState.{CacheState, line_at, with_cache}
-use Rattle.parity_cache.specs.Resident.{IsResident, Holds, IsWellFormed}
-use Rattle.parity_slots.proofs.AccessLemmas.{Lies, lies}
+use Rattle.parity_cache.proofs.SetPlaces.{matches, same_set_of, same_holds}
+use Rattle.parity_cache.specs.CacheState.{CacheState}
+use Rattle.parity_cache.specs.Resident.{IsResident}
+use Rattle.parity_slots.proofs.AccessLemmas.{lies}
 use Rattle.parity_slots.specs.SlotState.{IsAccess}
 
 -- ---- a hit

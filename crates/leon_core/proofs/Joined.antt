@@ -1,10 +1,10 @@
 -- What is shown of a core beside the bus that it joins: its turns, and what it leaves.
-use Rattle.std.proofs.Common.{◌≡◌, ◌∙◌, ◌+◌, ◌-◌, ◌==◌, ◌++◌, ◌&&◌, ℕ, true, false, List, [], ◌∷◌, length, take, drop, map, filter, refl, ap, sym, subst, arith}
+use Rattle.std.proofs.Common.{◌≡◌, ◌∙◌, ◌-◌, ◌++◌, true, List, [], ◌∷◌, length, take, drop, map, filter, refl, ap, sym, subst, arith}
 use Rattle.std.proofs.lemmas.Bool.{and_from}
 use Rattle.std.proofs.lemmas.Grind.{flat_map-append}
 use Rattle.std.proofs.lemmas.List.{take-append-drop, drop_at, drop-map}
 use Rattle.std.proofs.lemmas.List.Folds.{list_all-append}
-use Rattle.std.specs.List.{AllByRecursion as Each, list_all, flat_map}
+use Rattle.std.specs.List.{list_all, flat_map}
 use Rattle.core_laws.proofs.Unseen.{SnoopsLater, snoops_later, stored_by_log}
 use Rattle.core_parts.specs.CoreValue.{CoreValue}
 use Rattle.core_parts.specs.Phases.{state_of_core}

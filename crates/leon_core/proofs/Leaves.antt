@@ -1,5 +1,5 @@
 -- What an ended core leaves is right beside the log and all transfers, with those of others that came since its last turn.
-use Rattle.std.proofs.Common.{◌≡◌, ◌∙◌, ◌+◌, ◌-◌, ◌<◌, ◌≤◌, ◌==◌, ◌++◌, ◌&&◌, ℕ, Bool, true, false, List, [], ◌∷◌, Option, Some, None, length, take, map, slice_get, refl, ap, sym, subst, arith, inl, inr, if◌then◌else◌}
+use Rattle.std.proofs.Common.{◌≡◌, ◌∙◌, ◌+◌, ◌-◌, ◌<◌, ◌==◌, ◌++◌, ℕ, true, false, List, [], Option, Some, None, length, slice_get, refl, ap, sym, subst, arith, inl, inr}
 use Rattle.std.proofs.lemmas.Bool.{cases_lt, and_right}
 use Rattle.std.proofs.lemmas.List.{take-append-le}
 use Rattle.std.proofs.lemmas.Option.{slice_get_past}
@@ -19,17 +19,15 @@ use Rattle.leon_core.proofs.LeavesAccount.{arrays, account}
 use Rattle.leon_core.proofs.TurnParts.{own_before}
 use Rattle.leon_core.proofs.TurnReach.{after_others}
 use Rattle.leon_core.specs.Result.{result_of}
-use Rattle.lf_model.specs.Course.Arrays.{Arrays}
 use Rattle.lf_model.specs.Course.Core.{Ground, is_stop_at}
-use Rattle.lf_model.specs.Course.Course.{stored_at, with_unseen, course, finished}
+use Rattle.lf_model.specs.Course.Course.{stored_at, with_unseen}
 use Rattle.lf_model.specs.Course.Progress.{Progress}
 use Rattle.lf_model.specs.Ledger.CoreAccount.{core_by_course}
 use Rattle.lf_model.specs.Ledger.FlipFate.{flip_fates}
 use Rattle.lf_model.specs.Ledger.Steps.{own_transfers, HasSteps}
-use Rattle.lf_model.specs.Operation.{made}
 use Rattle.lf_model.specs.Promise.Regular.{is_regular_core, is_regular_op}
 use Rattle.lf_model.specs.Records.CoreRecord.{of_core_alone, RecordOk}
-use Rattle.lf_model.specs.Records.CoreRules.{EndedCore, HasThread, ShowsState, ShowsResult, ground_of_ended, course_of_ended}
+use Rattle.lf_model.specs.Records.CoreRules.{EndedCore, ShowsState, course_of_ended}
 use Rattle.lf_model.specs.Records.OwnTurns.{place_of_end, named_at, words_named_by, words_named}
 use Rattle.lf_model.specs.Records.SeenOrder.{is_entry_of}
 use Rattle.lf_model.specs.Run.{Run}
@@ -37,10 +35,8 @@ use Rattle.lf_model.specs.State.{psr_of}
 use Rattle.lf_model.specs.Start.{initial_byte}
 use Rattle.lf_model.specs.declared.bus.Entry.{Entry}
 use Rattle.lf_model.specs.declared.bus.Transfer.{Transfer}
-use Rattle.lf_model.specs.declared.record.CoreRecord.{CoreRecord}
 use Rattle.lf_model.specs.declared.trace.CoreEnd.{CoreEnd}
 use Rattle.lf_model.specs.declared.trace.Fate.{Fate}
-use Rattle.lf_model.specs.declared.trace.Op.{Op}
 
 -- ---- the word that its stop names, with transfers of others that come later
 

@@ -1,7 +1,6 @@
 -- What there is to account for of an ended core is what its record reports.
-use Rattle.std.proofs.Common.{◌≡◌, ◌∙◌, ◌+◌, ◌-◌, ◌==◌, ◌++◌, ◌&&◌, ℕ, Bool, true, false, not, List, [], ◌∷◌, Option, Some, None, is_none, length, map, filter, slice_index, refl, ap, sym, subst, arith, inl, inr, if◌then◌else◌}
+use Rattle.std.proofs.Common.{◌≡◌, ◌∙◌, ◌+◌, ◌-◌, ◌==◌, ◌&&◌, ℕ, Bool, true, false, not, List, [], ◌∷◌, Some, None, is_none, length, map, filter, slice_index, refl, ap, sym, arith, inl, inr, if◌then◌else◌}
 use Rattle.std.proofs.lemmas.Bool.{cases_Bool}
-use Rattle.std.proofs.lemmas.Simd.{map-map}
 use Rattle.std.specs.List.{range_with_len}
 use Rattle.core_laws.proofs.TurnCount.{turns_counted}
 use Rattle.core_parts.specs.CoreValue.{CoreValue}
@@ -17,8 +16,8 @@ use Rattle.lf_model.specs.Course.Arrays.{Arrays}
 use Rattle.lf_model.specs.Course.Core.{is_store, is_store_stop}
 use Rattle.lf_model.specs.Course.Course.{course}
 use Rattle.lf_model.specs.Course.Progress.{Progress, ErrorTrap}
-use Rattle.lf_model.specs.Flips.{Moment, is_bad_word}
-use Rattle.lf_model.specs.Ledger.CoreAccount.{CoreAccount, drains_owed, stores_lost, lost_reported, parity_errors, is_blank, blank_registers, errors_reported, core_by_course, core_as_reported}
+use Rattle.lf_model.specs.Flips.{is_bad_word}
+use Rattle.lf_model.specs.Ledger.CoreAccount.{CoreAccount, drains_owed, lost_reported, parity_errors, is_blank, blank_registers, errors_reported, core_by_course, core_as_reported}
 use Rattle.lf_model.specs.Ledger.Steps.{own_transfers}
 use Rattle.lf_model.specs.Run.{Run}
 use Rattle.lf_model.specs.State.{cell}

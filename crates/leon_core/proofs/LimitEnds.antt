@@ -1,8 +1,7 @@
 -- A core that shows its end has ended: in the phase that says so, or by the limit, once its steps are made and no store waits.
-use Rattle.std.proofs.Common.{◌≡◌, ◌∙◌, ◌<◌, ◌≤◌, ◌==◌, ◌++◌, ℕ, Bool, true, false, nat_lt, List, [], length, map, filter, refl, ap, sym, subst, arith}
+use Rattle.std.proofs.Common.{◌≡◌, ◌∙◌, ◌≤◌, ◌==◌, ◌++◌, Bool, true, false, nat_lt, List, [], length, filter, refl, ap, sym, subst, arith}
 use Rattle.std.proofs.lemmas.Bool.{ltb-false, eqb-true}
 use Rattle.std.proofs.lemmas.List.{length-map, nil_from_length}
-use Rattle.std.specs.List.{AllByRecursion as Each}
 use Rattle.core_laws.proofs.Ends.{names_none}
 use Rattle.core_laws.proofs.ListLemmas.{each_every}
 use Rattle.core_laws.proofs.LostAccount.{reports_none}
@@ -13,19 +12,18 @@ use Rattle.core_laws.specs.SeenSoFar.{HasSeenSoFar}
 use Rattle.core_parts.specs.CoreValue.{CoreValue}
 use Rattle.core_parts.specs.Phases.{ground_by, state_by, state_of_core}
 use Rattle.core_parts.specs.Seat.{seat, IsSeat}
-use Rattle.core_parts.specs.declared.phase.CoreState.{CoreState}
 use Rattle.core_parts.specs.declared.phase.CoreState.TheVariants as states
 use Rattle.core_parts.specs.declared.phase.Phase.{Phase}
 use Rattle.core_parts.specs.declared.phase.Phase.TheVariants.{Between, Begun, Needs, Ended}
 use Rattle.leon_core.proofs.Ended.{ground_ended, EndsOn, ground_is}
 use Rattle.leon_core.proofs.LaterSeat.{Reaches}
-use Rattle.leon_core.proofs.Reaches.{so_far, seat_between}
+use Rattle.leon_core.proofs.Reaches.{so_far}
 use Rattle.leon_core.proofs.Running.{ground_running, RunsOn, runs_on, unended_between}
 use Rattle.leon_core.specs.CoreOk.{buffer_of, waiting_of, within_steps, past_its_steps, HasEnded, StandsBy, CoreOk}
 use Rattle.leon_core.specs.Result.{result_of}
-use Rattle.lf_model.specs.Course.Core.{Ground, given_by, ground_of, is_store, is_stop_at}
+use Rattle.lf_model.specs.Course.Core.{given_by, ground_of, is_store, is_stop_at}
 use Rattle.lf_model.specs.Ledger.CoreAccount.{stores_lost, lost_reported}
-use Rattle.lf_model.specs.Ledger.Steps.{own_transfers, HasSteps}
+use Rattle.lf_model.specs.Ledger.Steps.{HasSteps}
 use Rattle.lf_model.specs.Records.OwnTurns.{words_named, OwnTurnAt}
 use Rattle.lf_model.specs.Start.{initial_byte}
 use Rattle.lf_model.specs.declared.bus.Entry.{Entry}

@@ -1,7 +1,6 @@
 -- A step without a turn by which a core ends, in error mode or by a bad register cell, keeps all that holds of the core.
-use Rattle.std.proofs.Common.{◌≡◌, ◌∙◌, ◌+◌, ◌<◌, ◌≤◌, ◌++◌, ◌&&◌, ℕ, true, false, List, [], length, refl, ap, sym, subst, arith}
+use Rattle.std.proofs.Common.{◌≡◌, ◌∙◌, ◌+◌, ◌<◌, ◌++◌, ℕ, false, List, [], length, refl, ap, sym, subst, arith}
 use Rattle.std.proofs.lemmas.Bool.{eq-eqb}
-use Rattle.std.proofs.lemmas.List.{append-nil}
 use Rattle.std.specs.List.{AllByRecursion as Each}
 use Rattle.core_laws.proofs.Ends.{names_none}
 use Rattle.core_laws.proofs.LostAccount.{reports_none}
@@ -15,7 +14,7 @@ use Rattle.core_parts.specs.Moves.{tried_at, Retires, Stops}
 use Rattle.core_parts.specs.Seat.{IsSeat}
 use Rattle.core_parts.specs.declared.phase.Phase.TheVariants.{Between, Ended}
 use Rattle.leon_core.proofs.Completing.{Sees}
-use Rattle.leon_core.proofs.Ended.{ground_ended, EndsOn, holds_ended}
+use Rattle.leon_core.proofs.Ended.{ground_ended, holds_ended}
 use Rattle.leon_core.proofs.LaterSeat.{Reaches}
 use Rattle.leon_core.proofs.LocalGround.{place_of, ground_with, now, ground_new, limit_new, reaches_then, own_then}
 use Rattle.leon_core.proofs.LocalSeat.{halted}
@@ -29,7 +28,7 @@ use Rattle.lf_model.specs.Course.Core.{Ground, r_register_access_error, is_stop_
 use Rattle.lf_model.specs.Course.LocalStep.{local_step}
 use Rattle.lf_model.specs.Course.Outcome.Need.{NoTurn, RegisterStop}
 use Rattle.lf_model.specs.Course.Progress.{next_needs}
-use Rattle.lf_model.specs.Ledger.Steps.{own_transfers, HasSteps}
+use Rattle.lf_model.specs.Ledger.Steps.{HasSteps}
 use Rattle.lf_model.specs.Results.{IsEnd}
 use Rattle.lf_model.specs.declared.bus.Entry.{Entry}
 use Rattle.lf_model.specs.declared.bus.Transfer.{Transfer}

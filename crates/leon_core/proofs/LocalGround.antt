@@ -1,5 +1,5 @@
 -- A core as it makes a step without a turn: the ground that it has after it, and its transfers by then.
-use Rattle.std.proofs.Common.{◌≡◌, ◌∙◌, ◌+◌, ◌<◌, ◌≤◌, ◌++◌, ℕ, true, List, [], length, refl, ap, sym, subst, arith}
+use Rattle.std.proofs.Common.{◌≡◌, ◌∙◌, ◌+◌, ◌<◌, ◌≤◌, ◌++◌, ℕ, List, [], length, ap, sym, subst, arith}
 use Rattle.std.specs.List.{AllByRecursion as Each}
 use Rattle.core_laws.proofs.Given.{given_more}
 use Rattle.core_laws.proofs.Steps.{none_past, steps_local}
@@ -14,7 +14,7 @@ use Rattle.leon_core.proofs.Running.{ground_running, RunsOn, runs_on, unended_be
 use Rattle.leon_core.proofs.StepParts.{Parted, parted}
 use Rattle.leon_core.specs.Completes.{KeepsTurns}
 use Rattle.leon_core.specs.CoreOk.{within_steps, past_its_steps, CoreOk}
-use Rattle.lf_model.specs.Course.Core.{Given, Ground, given_by, ground_of}
+use Rattle.lf_model.specs.Course.Core.{Ground, given_by, ground_of}
 use Rattle.lf_model.specs.Course.Progress.{Progress}
 use Rattle.lf_model.specs.Ledger.Steps.{own_transfers}
 use Rattle.lf_model.specs.declared.bus.Entry.{Entry}

@@ -1,14 +1,14 @@
 -- A step without a turn, whose instruction retires, keeps all that holds of a core.
-use Rattle.std.proofs.Common.{◌≡◌, ◌∙◌, ◌+◌, ◌<◌, ◌≤◌, ◌++◌, ℕ, List, length, refl, ap, sym, subst, arith}
+use Rattle.std.proofs.Common.{◌≡◌, ◌∙◌, ◌<◌, ◌≤◌, ◌++◌, List, length, refl, sym, subst, arith}
 use Rattle.core_laws.proofs.NextStep.{no_stop_at_limit}
 use Rattle.core_laws.specs.RunSoFar.{HasRun}
 use Rattle.core_parts.specs.CoreValue.{CoreValue}
 use Rattle.core_parts.specs.Moves.{tried_at, Retires}
-use Rattle.core_parts.specs.Seat.{seat, IsSeat}
+use Rattle.core_parts.specs.Seat.{IsSeat}
 use Rattle.core_parts.specs.declared.phase.Phase.TheVariants.{Between}
 use Rattle.leon_core.proofs.Completing.{Sees, goes_on}
 use Rattle.leon_core.proofs.LaterSeat.{Reaches}
-use Rattle.leon_core.proofs.LocalGround.{place_of, ground_with, now, running_new, limit_new, reaches_then, steps_then, parts_then}
+use Rattle.leon_core.proofs.LocalGround.{place_of, now, running_new, limit_new, reaches_then, steps_then, parts_then}
 use Rattle.leon_core.proofs.LocalSeat.{NeedsNone, retired}
 use Rattle.leon_core.proofs.Reaches.{going, seat_between, one_step}
 use Rattle.leon_core.proofs.Running.{ground_running, RunsOn, holds_on, unended_between, none_begun}
@@ -16,7 +16,6 @@ use Rattle.leon_core.proofs.StepParts.{steps_as}
 use Rattle.leon_core.specs.Completes.{KeepsTurns}
 use Rattle.leon_core.specs.CoreOk.{within_steps, past_its_steps, CoreOk}
 use Rattle.leon_core.specs.Lines.{LinesAre}
-use Rattle.lf_model.specs.Course.Core.{Ground}
 use Rattle.lf_model.specs.Course.LocalStep.{local_step}
 use Rattle.lf_model.specs.Course.Outcome.Need.{NoTurn}
 use Rattle.lf_model.specs.Course.Progress.{next_needs}

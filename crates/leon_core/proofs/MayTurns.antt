@@ -1,12 +1,11 @@
 -- A turn that a core may make is the one that its step needs, a drain by the schedule, or one after the last step: its transfer is right.
-use Rattle.std.proofs.Common.{◌≡◌, ◌∙◌, ◌+◌, ◌<◌, ◌≤◌, ◌==◌, ℕ, Bool, true, false, nat_le, nat_lt, List, length, map, filter, refl, ap, sym, subst, arith, inl, inr, if◌then◌else◌}
+use Rattle.std.proofs.Common.{◌≡◌, ◌∙◌, ◌+◌, ◌<◌, ◌≤◌, ◌==◌, ℕ, Bool, true, false, nat_lt, List, length, refl, ap, sym, subst, arith, inl, inr}
 use Rattle.std.proofs.lemmas.Bool.{cases_lt, lt-ltb, lt-leb, le-leb, ltb-false, eqb-false, eq-eqb}
 use Rattle.core_parts.specs.CoreValue.{CoreValue}
 use Rattle.core_parts.specs.Needs.{kind_of, why_of}
-use Rattle.core_parts.specs.Phases.{state_by, is_drained, state_of_core}
+use Rattle.core_parts.specs.Phases.{state_by}
 use Rattle.core_parts.specs.PortState.{arrays_in}
 use Rattle.core_parts.specs.Seat.{ArraysAre}
-use Rattle.core_parts.specs.declared.phase.CoreState.{CoreState}
 use Rattle.core_parts.specs.declared.phase.CoreState.TheVariants as states
 use Rattle.core_parts.specs.declared.phase.Phase.{Phase}
 use Rattle.core_parts.specs.declared.phase.Phase.TheVariants.{Between, Begun, Needs, Ended}
@@ -19,9 +18,8 @@ use Rattle.leon_core.specs.Calls.{MayTurnBy, MayTurn}
 use Rattle.leon_core.specs.CoreOk.{buffer_of, LeftBy}
 use Rattle.leon_core.specs.Makes.{IsOfFront, Makes}
 use Rattle.lf_model.specs.Course.Core.{Ground}
-use Rattle.lf_model.specs.Course.Course.{stored_at, with_unseen}
+use Rattle.lf_model.specs.Course.Course.{stored_at}
 use Rattle.lf_model.specs.Course.Progress.{Progress, store_waits}
-use Rattle.lf_model.specs.Course.Turn.{is_past_steps}
 use Rattle.lf_model.specs.Ledger.Steps.{is_last_drain}
 use Rattle.lf_model.specs.Records.OwnTurns.{IsRightTurn}
 use Rattle.lf_model.specs.Start.{initial_byte}

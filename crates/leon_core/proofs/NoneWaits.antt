@@ -1,15 +1,14 @@
 -- No store waits as a step without a turn ends a core: stores drain before it enters error mode, and before a register cell stops it.
-use Rattle.std.proofs.Common.{◌≡◌, ◌∙◌, ◌+◌, ◌<◌, ◌≤◌, ℕ, Bool, true, false, nat_le, nat_lt, List, Option, Some, None, length, refl, ap, sym, subst, arith, inl, inr, if◌then◌else◌}
+use Rattle.std.proofs.Common.{◌≡◌, ◌+◌, ℕ, Bool, true, false, nat_le, Option, Some, None, refl, arith, inl, inr}
 use Rattle.std.proofs.lemmas.Bool.{cases_Bool, ltb-false}
 use Rattle.leon_core.specs.Calls.{halts_with}
 use Rattle.lf_model.specs.Caches.Look.{LookUp, look}
 use Rattle.lf_model.specs.Caches.Look.LookUp.{Hit, Miss}
 use Rattle.lf_model.specs.Course.Arrays.{Arrays, CellsRead, cells_of, read_cells}
-use Rattle.lf_model.specs.Course.Attempt.{register_attempt, read_attempt, fetch_attempt, attempt}
+use Rattle.lf_model.specs.Course.Attempt.{register_attempt, fetch_attempt, attempt}
 use Rattle.lf_model.specs.Course.Core.{Ground}
-use Rattle.lf_model.specs.Course.Outcome.{Outcome, Need, drains, trap_needs, outcome_needs, step_needs}
+use Rattle.lf_model.specs.Course.Outcome.{Outcome, step_needs}
 use Rattle.lf_model.specs.Course.Outcome.Need.{NoTurn, RegisterStop}
-use Rattle.lf_model.specs.Course.Outcome.Need.{Turn as Asks}
 use Rattle.lf_model.specs.Course.Outcome.Outcome.{NotTried, NoText, FetchMiss, BadRegister, OrdinaryTrap, LoadMiss, LoadHit, Store, Atomic, Barrier, Other}
 use Rattle.lf_model.specs.Course.Progress.{Progress, store_waits, buffer_full, next_needs}
 use Rattle.lf_model.specs.Effect.{Effect}

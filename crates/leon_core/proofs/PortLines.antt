@@ -1,5 +1,5 @@
 -- What each touch leaves of the lines of a core's caches: only an own store and fills put bytes into them.
-use Rattle.std.proofs.Common.{◌≡◌, ◌∙◌, ◌<◌, ◌++◌, ◌^◌, ℕ, true, false, List, [], ◌∷◌, fold, map, refl, ap, sym, subst}
+use Rattle.std.proofs.Common.{◌≡◌, ◌<◌, ◌++◌, ◌^◌, ℕ, false, List, [], ◌∷◌, fold, refl, ap, sym, subst}
 use Rattle.std.specs.List.{AllByRecursion as Each}
 use Rattle.core_parts.specs.PortState.{PortState, arrays_in, lines_after, touch}
 use Rattle.leon_core.specs.Lines.{PortLines}
@@ -12,7 +12,7 @@ use Rattle.lf_model.specs.declared.touch.Touch.TheVariants.{StartStep, LookFetch
 use Rattle.parity_cache.proofs.Bytes.{puts_data, puts_fetch, less_data, less_fetch, holds_own_store}
 use Rattle.parity_cache.proofs.LessResident.{formed_less, holds_less}
 use Rattle.parity_cache.proofs.OwnStore.{formed_stored}
-use Rattle.parity_cache.specs.CacheState.{CacheState, with_cache}
+use Rattle.parity_cache.specs.CacheState.{with_cache}
 use Rattle.parity_cache.specs.Resident.{Holds, IsWellFormed}
 use Rattle.parity_slots.specs.SlotState.{IsAccess}
 

@@ -1,5 +1,5 @@
 -- A core that has come so far along its course makes a step, and its end or what it reads becomes known.
-use Rattle.std.proofs.Common.{◌≡◌, ◌∙◌, ◌+◌, ◌<◌, ◌≤◌, ℕ, Bool, true, false, List, [], ◌∷◌, None, length, map, filter, count_by, refl, ap, sym, subst, arith}
+use Rattle.std.proofs.Common.{◌≡◌, ◌∙◌, ◌+◌, ◌≤◌, ℕ, Bool, true, false, List, [], ◌∷◌, None, length, map, count_by, refl, ap, sym, arith}
 use Rattle.core_laws.proofs.ListLemmas.{count_append}
 use Rattle.core_laws.proofs.Runs.{run_local_step}
 use Rattle.core_parts.specs.CoreValue.{CoreValue}
@@ -12,7 +12,7 @@ use Rattle.lf_model.specs.Course.Core.{Ground}
 use Rattle.lf_model.specs.Course.LocalStep.{local_step}
 use Rattle.lf_model.specs.Course.Progress.{Progress}
 use Rattle.lf_model.specs.Execution.{answers_of}
-use Rattle.lf_model.specs.Operation.{kind_reads, kind_made, entry_reads, reads, made}
+use Rattle.lf_model.specs.Operation.{kind_reads, kind_made, entry_reads, made}
 use Rattle.lf_model.specs.Run.{Run, reads_of}
 use Rattle.lf_model.specs.declared.bus.Entry.{Entry}
 use Rattle.lf_model.specs.declared.bus.OpKind.{OpKind}

@@ -1,5 +1,5 @@
 -- A transfer that was right by what a core had read and stored so far is right by what is known later.
-use Rattle.std.proofs.Common.{◌≡◌, ◌∙◌, ◌++◌, ℕ, Bool, nat_le, List, [], Option, Some, None, slice_get, option_map, refl, ap, sym, if◌then◌else◌}
+use Rattle.std.proofs.Common.{◌≡◌, ◌∙◌, ◌++◌, ℕ, nat_le, [], Option, Some, None, slice_get, option_map, refl, ap}
 use Rattle.std.proofs.lemmas.List.{append-nil}
 use Rattle.core_laws.specs.Running.{running, with_later}
 use Rattle.lf_model.specs.Course.Core.{Given, Ground, ground_of}

@@ -1,30 +1,24 @@
 -- The transfer that a core makes at its turn is the one that its step needed.
-use Rattle.std.proofs.Common.{◌≡◌, ◌∙◌, ◌+◌, ◌<◌, ◌≤◌, ◌==◌, ◌++◌, ℕ, Bool, true, false, nat_le, nat_lt, List, [], Option, Some, None, length, map, filter, slice_get, refl, ap, sym, subst, arith, inl, inr, option_map, if◌then◌else◌}
-use Rattle.std.proofs.lemmas.Bool.{cases_Bool, lt-ltb, lt-leb, le-leb}
-use Rattle.std.proofs.lemmas.List.{append-nil}
-use Rattle.core_laws.specs.Running.{with_later}
+use Rattle.std.proofs.Common.{◌≡◌, ◌∙◌, ℕ, true, false, nat_le, List, Option, Some, None, length, refl, ap, sym, inl, inr, option_map}
+use Rattle.std.proofs.lemmas.Bool.{cases_Bool}
 use Rattle.core_parts.specs.CoreValue.{CoreValue}
-use Rattle.core_parts.specs.Needs.{kind_of, why_of, IsTurnOf}
 use Rattle.core_parts.specs.Seat.{NeedsTurn}
 use Rattle.leon_core.proofs.TurnTargets.{NoFetch, drains_no_fetch, untried_no_fetch, no_text_no_fetch, fetch_asked, load_target_is, atomic_target_is, Front}
 use Rattle.leon_core.specs.Makes.{Makes}
 use Rattle.lf_model.specs.Bus.Words.{words_read}
-use Rattle.lf_model.specs.Caches.Slot.{line_of}
 use Rattle.lf_model.specs.Course.Arrays.{Arrays, begun}
 use Rattle.lf_model.specs.Course.Attempt.{comes_to, attempt}
-use Rattle.lf_model.specs.Course.Core.{Given, Ground, ground_of}
+use Rattle.lf_model.specs.Course.Core.{Ground}
 use Rattle.lf_model.specs.Course.Course.{with_unseen}
-use Rattle.lf_model.specs.Course.Outcome.{drains}
 use Rattle.lf_model.specs.Course.Outcome.Need.{NoTurn}
 use Rattle.lf_model.specs.Course.Outcome.Need.{Turn as Asks}
 use Rattle.lf_model.specs.Course.Outcome.Outcome.{NoText}
 use Rattle.lf_model.specs.Course.Progress.{Progress, store_waits, buffer_full}
-use Rattle.lf_model.specs.Course.Turn.{Target, is_past_steps, leaves_instruction, turn_attempt, turn_needs, arrays_before, line_target, store_target, target_of, fill_way, addressed_at, addressed}
+use Rattle.lf_model.specs.Course.Turn.{Target, is_past_steps, turn_attempt, turn_needs, arrays_before, line_target, store_target, target_of, fill_way, addressed_at}
 use Rattle.lf_model.specs.Effect.{Effect}
-use Rattle.lf_model.specs.Names.{same_kind, same_why}
+use Rattle.lf_model.specs.Names.{same_why}
 use Rattle.lf_model.specs.Records.OwnTurns.{next_effect, with_word_count, IsRightTurn}
 use Rattle.lf_model.specs.Start.{is_text_word}
-use Rattle.lf_model.specs.declared.bus.Entry.{Entry}
 use Rattle.lf_model.specs.declared.bus.Transfer.{Transfer}
 use Rattle.lf_model.specs.declared.bus.TurnKind.TheVariants as kinds
 use Rattle.lf_model.specs.declared.bus.Why.{Why}

@@ -4,7 +4,7 @@ use Rattle.std.specs.List.{list_all}
 use Rattle.core_laws.specs.RunSoFar.{HasRun}
 use Rattle.core_laws.specs.Running.{running}
 use Rattle.core_parts.specs.CoreValue.{CoreValue}
-use Rattle.core_parts.specs.Phases.{ground_by, ground_so_far}
+use Rattle.core_parts.specs.Phases.{ground_by}
 use Rattle.core_parts.specs.Seat.{seat, IsSeat}
 use Rattle.core_parts.specs.declared.phase.Phase.{Phase}
 use Rattle.core_parts.specs.declared.phase.Phase.TheVariants.{Between, Begun, Needs, Ended}

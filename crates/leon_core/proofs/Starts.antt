@@ -1,8 +1,5 @@
 -- A core at reset has seen nothing, and all holds of it.
-use Rattle.std.proofs.Common.{◌≡◌, ◌∙◌, ◌*◌, ℕ, false, [], length, replicate, refl, ap, sym, arith, inl, inr}
-use Rattle.std.proofs.lemmas.Bool.{cases_lt}
-use Rattle.std.proofs.lemmas.List.{get_or-replicate, get_or_past, length-replicate}
-use Rattle.std.specs.Prelude.{slice_index_or}
+use Rattle.std.proofs.Common.{ℕ, [], length, refl, arith}
 use Rattle.core_laws.specs.RunSoFar.{HasRun}
 use Rattle.core_laws.specs.SeenSoFar.{HasSeenSoFar}
 use Rattle.core_laws.specs.StepsSoFar.{HasStepsSoFar}
@@ -11,12 +8,9 @@ use Rattle.core_parts.specs.CoreValue.{start_value}
 use Rattle.leon_core.specs.Lines.{LinesAre}
 use Rattle.core_parts.specs.Phases.{ground_so_far}
 use Rattle.core_parts.specs.Seat.{seat, IsSeat}
-use Rattle.lf_model.specs.Caches.Cache.{empty_cache, slot_at}
-use Rattle.lf_model.specs.Caches.Slot.{empty_slot, holds}
 use Rattle.lf_model.specs.Run.{run}
 use Rattle.lf_model.specs.Start.{initial_byte}
 use Rattle.lf_model.specs.State.{reset}
-use Rattle.lf_model.specs.declared.config.Shape.{Shape}
 use Rattle.lf_model.specs.declared.setup.Setup.{Setup}
 use Rattle.parity_cache.proofs.Bytes.{formed_reset, holds_reset}
 use Rattle.parity_cache.specs.CacheState.{IsCacheShape}

@@ -1,10 +1,9 @@
 -- What a step without a turn leaves of the lines of a core's caches: the touches of a try put no byte into them, and of those of an
 -- instruction that retires only an own store does.
-use Rattle.std.proofs.Common.{◌≡◌, ◌∙◌, ◌<◌, ◌++◌, ◌^◌, ℕ, Bool, true, false, List, [], ◌∷◌, Option, Some, None, fold, map, refl, ap, sym, subst, if◌then◌else◌}
-use Rattle.std.proofs.lemmas.List.Sums.{fold-append}
+use Rattle.std.proofs.Common.{◌≡◌, ◌<◌, ◌++◌, ◌^◌, ℕ, Bool, true, false, List, [], ◌∷◌, Option, Some, None, fold, refl, sym, subst, if◌then◌else◌}
 use Rattle.std.specs.List.{AllByRecursion as Each}
-use Rattle.core_laws.specs.StepTouches.{access_looks, operation_looks, trap_looks, register_looks, cell_touches, fetched_touches, attempt_touches}
-use Rattle.core_parts.specs.PortState.{PortState, arrays_in, touch}
+use Rattle.core_laws.specs.StepTouches.{access_looks, operation_looks, trap_looks, register_looks, fetched_touches, attempt_touches}
+use Rattle.core_parts.specs.PortState.{PortState, touch}
 use Rattle.leon_core.proofs.PortLines.{PutsNone, keeps_lines, keeps_all, stores_line}
 use Rattle.leon_core.specs.Lines.{PortLines}
 use Rattle.lf_model.proofs.EachLemmas.{each_append}
@@ -12,9 +11,8 @@ use Rattle.lf_model.specs.Caches.Look.{LookUp, look}
 use Rattle.lf_model.specs.Caches.Look.LookUp.{Hit, Miss}
 use Rattle.lf_model.specs.Caches.Slot.{history_at, befalls}
 use Rattle.lf_model.specs.Course.Arrays.{Arrays, cells_of, read_cells, read_back}
-use Rattle.lf_model.specs.Course.Core.{is_store_kind}
-use Rattle.lf_model.specs.Course.Touches.{unless_bad, read_touches, store_touches, access_touches, barrier_touches, write_touches, retire_touches}
-use Rattle.lf_model.specs.Effect.{AccessKind, Access, Effect, operation_kind}
+use Rattle.lf_model.specs.Course.Touches.{unless_bad, read_touches, access_touches, barrier_touches, write_touches, retire_touches}
+use Rattle.lf_model.specs.Effect.{AccessKind, Access, Effect}
 use Rattle.lf_model.specs.Flips.{Moment, is_bad_word}
 use Rattle.lf_model.specs.Names.{same_why}
 use Rattle.lf_model.specs.Start.{is_text_word}
@@ -25,7 +23,7 @@ use Rattle.lf_model.specs.declared.bus.Why.TheVariants.{Flush}
 use Rattle.lf_model.specs.declared.flip.Flip.{Flip}
 use Rattle.lf_model.specs.declared.image.Image.{Image}
 use Rattle.lf_model.specs.declared.touch.Touch.{Touch}
-use Rattle.lf_model.specs.declared.touch.Touch.TheVariants.{StartStep, LookFetch, ReadCell, WriteCell, LookData, StoreData, FlushCaches}
+use Rattle.lf_model.specs.declared.touch.Touch.TheVariants.{StartStep, LookFetch, StoreData, FlushCaches}
 use Rattle.parity_slots.specs.SlotState.{IsAccess}
 
 abbrev PutNone : List Touch → Type 0

@@ -1,7 +1,6 @@
 -- What a core has seen of memory order as a turn stops it, and which of its stores are lost then.
-use Rattle.std.proofs.Common.{◌≡◌, ◌∙◌, ◌+◌, ◌-◌, ◌++◌, ℕ, true, false, List, [], ◌∷◌, length, map, filter, refl, ap, sym, subst, arith, if◌then◌else◌}
+use Rattle.std.proofs.Common.{◌≡◌, ◌∙◌, ◌+◌, ◌-◌, ◌++◌, ℕ, true, false, List, [], ◌∷◌, length, filter, ap, sym, subst, arith}
 use Rattle.std.proofs.lemmas.List.{append-nil, length-map, nil_from_length}
-use Rattle.std.specs.Int.{from_bool}
 use Rattle.std.specs.List.{AllByRecursion as Each, range_with_len}
 use Rattle.core_laws.proofs.Given.{given_more, given_lost}
 use Rattle.core_laws.proofs.LostAccount.{reports_none, reports_waiting}
@@ -12,7 +11,7 @@ use Rattle.core_laws.specs.SeenSoFar.{HasSeenSoFar, losing}
 use Rattle.core_parts.specs.CoreValue.{CoreValue}
 use Rattle.leon_core.specs.Completes.{CompletesNone}
 use Rattle.leon_core.specs.CoreOk.{buffer_of, waiting_of, GoesOn}
-use Rattle.lf_model.specs.Course.Core.{Given, Ground, given_by, is_store, is_store_stop}
+use Rattle.lf_model.specs.Course.Core.{Ground, given_by, is_store, is_store_stop}
 use Rattle.lf_model.specs.Course.Progress.{Progress}
 use Rattle.lf_model.specs.Course.Turned.{own_turn}
 use Rattle.lf_model.specs.Ledger.CoreAccount.{stores_lost, lost_reported}
@@ -23,8 +22,6 @@ use Rattle.lf_model.specs.Start.{initial_byte}
 use Rattle.lf_model.specs.declared.bus.Entry.{Entry}
 use Rattle.lf_model.specs.declared.bus.Transfer.{Transfer}
 use Rattle.lf_model.specs.declared.bus.TurnKind.TheVariants.{Store}
-use Rattle.lf_model.specs.declared.trace.CoreEnd.{CoreEnd}
-use Rattle.lf_model.specs.declared.trace.Op.{Op}
 
 -- the stores that the course loses at such a turn: the one that drained, and those that wait
 lost_in_turn : (g : Ground) (t : Transfer) (k : Progress) → is_store_stop g.end ≡ true → same_kind t.kind Store ≡ true → (own_turn g t k).stored ≡ k.stored

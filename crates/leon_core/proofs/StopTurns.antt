@@ -1,5 +1,5 @@
 -- A turn that meets a bad word which it wants stops the core, and keeps all that holds of it.
-use Rattle.std.proofs.Common.{◌≡◌, ◌∙◌, ◌+◌, ◌-◌, ◌*◌, ◌<◌, ◌≤◌, ◌==◌, ◌++◌, ◌&&◌, ◌||◌, ℕ, Bool, true, false, not, nat_le, nat_lt, List, [], ◌∷◌, Option, Some, None, length, filter, refl, ap, sym, subst, arith, inl, inr, if◌then◌else◌}
+use Rattle.std.proofs.Common.{◌≡◌, ◌∙◌, ◌+◌, ◌-◌, ◌*◌, ◌<◌, ◌≤◌, ◌==◌, ◌++◌, ℕ, Bool, true, false, nat_le, nat_lt, List, [], ◌∷◌, Some, length, filter, refl, ap, sym, subst, arith, inl, inr, if◌then◌else◌}
 use Rattle.std.proofs.lemmas.Bool.{cases_lt, eq-eqb, lt-leb, le-leb, leb-false, and_right}
 use Rattle.std.proofs.lemmas.List.{append-nil, append_assoc}
 use Rattle.std.specs.List.{AllByRecursion as Each, flat_map, find}
@@ -15,8 +15,8 @@ use Rattle.core_parts.specs.Moves.{StopsAtTurn}
 use Rattle.core_parts.specs.Seat.{IsSeat}
 use Rattle.core_parts.specs.declared.phase.Phase.TheVariants.{Ended}
 use Rattle.leon_core.proofs.BusSteps.{MakesTurn, now, takes, right_so_far}
-use Rattle.leon_core.proofs.Ended.{ground_ended, EndsOn, holds_ended}
-use Rattle.leon_core.proofs.LaterSeat.{Reaches, at_seat}
+use Rattle.leon_core.proofs.Ended.{ground_ended, holds_ended}
+use Rattle.leon_core.proofs.LaterSeat.{Reaches}
 use Rattle.leon_core.proofs.LocalGround.{place_of}
 use Rattle.leon_core.proofs.MayTurns.{last_drains, drain_last}
 use Rattle.leon_core.proofs.RightLater.{right_later}
@@ -30,14 +30,14 @@ use Rattle.leon_core.specs.Completes.{Keeps}
 use Rattle.leon_core.specs.CoreOk.{within_steps, past_its_steps, CoreOk}
 use Rattle.leon_core.specs.Result.{result_of}
 use Rattle.lf_model.specs.Bus.Words.{word_of}
-use Rattle.lf_model.specs.Course.Core.{Given, Ground, given_by, r_register_access_error, is_register_stop, is_stop_at, is_store, is_store_stop}
-use Rattle.lf_model.specs.Course.Course.{stored_at, with_unseen, course}
+use Rattle.lf_model.specs.Course.Core.{Ground, given_by, r_register_access_error, is_register_stop, is_stop_at, is_store, is_store_stop}
+use Rattle.lf_model.specs.Course.Course.{stored_at, course}
 use Rattle.lf_model.specs.Course.Progress.{Progress}
 use Rattle.lf_model.specs.Course.Syndromes.{met_bad}
-use Rattle.lf_model.specs.Course.Turned.{own_turn, bad_wanted, turn_wants, turn_trap, retires_by}
+use Rattle.lf_model.specs.Course.Turned.{own_turn, bad_wanted, turn_wants, turn_trap}
 use Rattle.lf_model.specs.Effect.{Effect}
 use Rattle.lf_model.specs.Ledger.CoreAccount.{stores_lost, lost_reported}
-use Rattle.lf_model.specs.Ledger.Steps.{own_transfers, in_steps, is_last_drain, HasSteps}
+use Rattle.lf_model.specs.Ledger.Steps.{own_transfers, is_last_drain, HasSteps}
 use Rattle.lf_model.specs.Names.{same_kind}
 use Rattle.lf_model.specs.Operation.{is_lost}
 use Rattle.lf_model.specs.Records.OwnTurns.{next_effect, IsRightTurn, words_named}
@@ -47,12 +47,9 @@ use Rattle.lf_model.specs.declared.bus.Entry.{Entry}
 use Rattle.lf_model.specs.declared.bus.Transfer.{Transfer}
 use Rattle.lf_model.specs.declared.bus.TurnKind.{TurnKind}
 use Rattle.lf_model.specs.declared.bus.TurnKind.TheVariants.{Fetch, Load, Store, Atomic, Snoop, Look, Fix}
-use Rattle.lf_model.specs.declared.setup.Setup.{Setup}
 use Rattle.lf_model.specs.declared.step.Turn.{Turn}
 use Rattle.lf_model.specs.declared.trace.CoreEnd.{CoreEnd}
 use Rattle.lf_model.specs.declared.trace.CoreEnd.TheVariants.{Stop}
-use Rattle.lf_model.specs.declared.trace.Op.{Op}
-use Rattle.lf_model.specs.declared.trace.Word2.{Word2}
 
 -- ---- the error trap of a turn
 

@@ -1,5 +1,5 @@
 -- A core as it makes its turn on the bus, after others made theirs: its place, and the ground that it has then.
-use Rattle.std.proofs.Common.{◌≡◌, ◌∙◌, ◌+◌, ◌<◌, ◌≤◌, ◌==◌, ◌++◌, ℕ, true, false, List, [], ◌∷◌, None, length, refl, ap, sym, subst, arith}
+use Rattle.std.proofs.Common.{◌≡◌, ◌∙◌, ◌+◌, ◌≤◌, ◌==◌, ◌++◌, ℕ, true, false, List, [], ◌∷◌, None, refl, ap, sym, arith}
 use Rattle.std.proofs.lemmas.Bool.{and_parts}
 use Rattle.std.proofs.lemmas.List.Folds.{list_all-append}
 use Rattle.std.specs.List.{AllByRecursion as Each, list_all, flat_map}
@@ -17,7 +17,7 @@ use Rattle.leon_core.proofs.TurnReach.{after_others}
 use Rattle.leon_core.specs.Completes.{Keeps}
 use Rattle.lf_model.specs.Course.Core.{Given, Ground, given_by, ground_of, is_register_stop}
 use Rattle.lf_model.specs.Course.Course.{stored_at, with_unseen}
-use Rattle.lf_model.specs.Course.Progress.{Progress, ErrorTrap}
+use Rattle.lf_model.specs.Course.Progress.{Progress}
 use Rattle.lf_model.specs.Records.BusRecord.{is_in_memory}
 use Rattle.lf_model.specs.Run.{Run}
 use Rattle.lf_model.specs.declared.bus.Entry.{Entry}

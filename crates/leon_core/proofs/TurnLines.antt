@@ -1,20 +1,20 @@
 -- What a turn leaves of the lines of a core's caches: the data cache catches up with the log, and the transfer fills a line, drains a
 -- store, or exchanges a number.
-use Rattle.std.proofs.Common.{◌≡◌, ◌≢◌, ◌∙◌, ◌/◌, ◌%◌, ◌<◌, ◌++◌, ◌^◌, ℕ, List, [], ◌∷◌, fold, map, take, drop, slice_index, refl, ap, sym, subst}
+use Rattle.std.proofs.Common.{◌≡◌, ◌∙◌, ◌/◌, ◌%◌, ◌<◌, ◌++◌, ◌^◌, ℕ, List, [], ◌∷◌, fold, map, take, drop, slice_index, ap, sym, subst}
 use Rattle.std.proofs.lemmas.List.{append_assoc, take-append-drop}
 use Rattle.std.specs.Int.{bit_at}
 use Rattle.std.specs.List.{AllByRecursion as Each}
 use Rattle.core_parts.specs.PortState.{PortState}
 use Rattle.leon_core.specs.Lines.{PortLines}
 use Rattle.lf_model.specs.Caches.Change.{snooped}
-use Rattle.lf_model.specs.Operation.{byte_of, touches, byte_put}
+use Rattle.lf_model.specs.Operation.{byte_of}
 use Rattle.lf_model.specs.Value.{stored}
 use Rattle.lf_model.specs.declared.bus.Entry.{Entry}
 use Rattle.order_log.specs.LogState.{IsLogEntry}
 use Rattle.parity_cache.proofs.Bytes.{stored_then, in_its_line, untouched}
 use Rattle.parity_cache.proofs.FilledBytes.{formed_filled, holds_filled}
 use Rattle.parity_cache.proofs.LessResident.{formed_snooped, holds_snooped}
-use Rattle.parity_cache.specs.CacheState.{CacheState, with_cache, filled_cache}
+use Rattle.parity_cache.specs.CacheState.{with_cache, filled_cache}
 use Rattle.parity_slots.specs.SlotState.{IsAccess}
 use Rattle.snoop.proofs.CaughtUp.{formed_caught, holds_caught}
 use Rattle.snoop.specs.Snooping.{address_of}

@@ -1,11 +1,11 @@
 -- A core's transfers once others made theirs and it made one more: a turn in a step, or a drain after its last step.
-use Rattle.std.proofs.Common.{◌≡◌, ◌∙◌, ◌+◌, ◌<◌, ◌≤◌, ◌==◌, ◌++◌, ◌&&◌, ℕ, true, false, List, [], ◌∷◌, length, refl, ap, sym, subst, arith}
+use Rattle.std.proofs.Common.{◌≡◌, ◌∙◌, ◌+◌, ◌<◌, ◌≤◌, ◌==◌, ◌++◌, ◌&&◌, ℕ, true, false, List, [], ◌∷◌, ap, sym, subst, arith}
 use Rattle.std.proofs.lemmas.Bool.{eqb-true, eqb-false, ne_eqb, and_parts}
 use Rattle.std.proofs.lemmas.List.{append-nil, append_assoc}
 use Rattle.std.proofs.lemmas.List.Elements.{filter-append}
 use Rattle.std.specs.Int.{from_bool}
 use Rattle.std.specs.List.{AllByRecursion as Each}
-use Rattle.core_laws.proofs.Steps.{none_past, steps_turn, steps_drain}
+use Rattle.core_laws.proofs.Steps.{none_past, steps_turn}
 use Rattle.core_laws.proofs.Stops.{own_more}
 use Rattle.core_laws.specs.StepsSoFar.{HasStepsSoFar}
 use Rattle.leon_core.proofs.StepParts.{Parted, parted}

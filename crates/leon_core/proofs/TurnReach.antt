@@ -1,5 +1,5 @@
 -- Others make their turns, and then a core its own: it comes to the place after that turn.
-use Rattle.std.proofs.Common.{◌≡◌, ◌∙◌, ◌+◌, ◌-◌, ◌<◌, ◌≤◌, ◌==◌, ◌++◌, ℕ, zero, suc, true, false, List, [], ◌∷◌, Option, Some, None, length, slice_get, IfSome, refl, ap, sym, subst, arith, inl, inr}
+use Rattle.std.proofs.Common.{◌≡◌, ◌∙◌, ◌+◌, ◌-◌, ◌<◌, ◌==◌, ◌++◌, ℕ, zero, suc, true, List, [], ◌∷◌, Option, Some, None, length, slice_get, refl, ap, sym, subst, arith, inl, inr}
 use Rattle.std.proofs.lemmas.Bool.{cases_lt, eq-eqb}
 use Rattle.std.proofs.lemmas.List.{length-append}
 use Rattle.std.specs.List.{AllByRecursion as Each, flat_map}
@@ -7,7 +7,6 @@ use Rattle.core_laws.proofs.ListLemmas.{get_second, each_get}
 use Rattle.core_laws.proofs.OthersTurns.{IsOthers, course_later}
 use Rattle.core_laws.proofs.OwnTurns.{own_turn_at_longer, own_turn_at_made}
 use Rattle.core_laws.proofs.Runs.{run_own_turn}
-use Rattle.core_laws.specs.RunSoFar.{HasRun}
 use Rattle.core_parts.specs.Seat.{seat}
 use Rattle.leon_core.proofs.LaterSeat.{Reaches, at_seat}
 use Rattle.lf_model.proofs.CourseLemmas.{IsAt, at_own_turn}
@@ -16,7 +15,7 @@ use Rattle.lf_model.specs.Course.Course.{stored_at, with_unseen, course}
 use Rattle.lf_model.specs.Course.LocalStep.{local_step, local_steps}
 use Rattle.lf_model.specs.Course.Progress.{Progress}
 use Rattle.lf_model.specs.Course.Turned.{own_turn}
-use Rattle.lf_model.specs.Records.OwnTurns.{IsRightTurn, before_turn, OwnTurnAt}
+use Rattle.lf_model.specs.Records.OwnTurns.{IsRightTurn, OwnTurnAt}
 use Rattle.lf_model.specs.declared.bus.Transfer.{Transfer}
 
 module _ (g : Ground) where

@@ -1,6 +1,6 @@
 -- What a core has seen of memory order as others' entries come, and then its own by a turn.
-use Rattle.std.proofs.Common.{◌≡◌, ◌∙◌, ◌+◌, ◌<◌, ◌++◌, ℕ, Bool, false, List, [], ◌∷◌, length, take, drop, map, refl, ap, sym, subst, arith, if◌then◌else◌}
-use Rattle.std.proofs.lemmas.List.{length-append, length-map, drop-map, nil_from_length}
+use Rattle.std.proofs.Common.{◌≡◌, ◌∙◌, ◌+◌, ◌<◌, ◌++◌, ℕ, Bool, false, List, [], ◌∷◌, length, take, drop, refl, ap, arith, if◌then◌else◌}
+use Rattle.std.proofs.lemmas.List.{length-map, drop-map, nil_from_length}
 use Rattle.std.specs.List.{AllByRecursion as Each}
 use Rattle.core_laws.proofs.SeenLog.{seen_others, seen_drain}
 use Rattle.core_laws.proofs.SeenRetired.{seen_atomic}
@@ -18,7 +18,6 @@ use Rattle.lf_model.specs.Start.{initial_byte}
 use Rattle.lf_model.specs.Value.{Reads}
 use Rattle.lf_model.specs.declared.bus.Entry.{Entry}
 use Rattle.lf_model.specs.declared.bus.Transfer.{Transfer}
-use Rattle.lf_model.specs.declared.trace.Op.{Op}
 
 -- seen: the entries that it had seen; log: all of them
 module _ (old new : CoreValue) (seen : List Entry) (ts : List Transfer) (more : List Entry) (h : GoesOn old seen ts) (others : Each (λ e. is_entry_of old.arch.core e ≡ false) more) where

@@ -1,5 +1,5 @@
 -- Where the transfer of a core's turn is, by the turn that its step asks for.
-use Rattle.std.proofs.Common.{◌≡◌, ◌∙◌, ◌+◌, ◌<◌, ◌≤◌, ◌==◌, ◌++◌, ℕ, Bool, true, false, List, [], ◌∷◌, Option, Some, None, length, map, filter, slice_get, refl, ap, sym, subst, arith, if◌then◌else◌}
+use Rattle.std.proofs.Common.{◌≡◌, ◌∙◌, ◌+◌, ◌++◌, ℕ, Bool, true, false, List, [], ◌∷◌, Option, Some, None, length, map, filter, slice_get, refl, ap, sym, subst, arith}
 use Rattle.std.proofs.lemmas.List.{length-append, length-map, map-append}
 use Rattle.std.proofs.lemmas.List.Elements.{filter-append}
 use Rattle.core_laws.proofs.ListLemmas.{get_behind, filter_all, filter_within}
@@ -10,12 +10,12 @@ use Rattle.core_parts.specs.PortState.{Waiting}
 use Rattle.leon_core.specs.CoreOk.{waiting_of}
 use Rattle.leon_core.specs.Makes.{IsOfFront}
 use Rattle.lf_model.specs.Course.Core.{is_store, is_store_kind}
-use Rattle.lf_model.specs.Course.Outcome.{Outcome, Need, drains, trap_needs, outcome_needs, step_needs}
+use Rattle.lf_model.specs.Course.Outcome.{Need, drains, trap_needs, step_needs}
 use Rattle.lf_model.specs.Course.Outcome.Need.{NoTurn, RegisterStop}
 use Rattle.lf_model.specs.Course.Outcome.Need.{Turn as Asks}
 use Rattle.lf_model.specs.Course.Outcome.Outcome.{NotTried, NoText}
-use Rattle.lf_model.specs.Course.Turn.{Target, line_target, store_target, load_target, atomic_target, target_by}
-use Rattle.lf_model.specs.Effect.{Access, AccessKind}
+use Rattle.lf_model.specs.Course.Turn.{line_target, load_target, atomic_target, target_by}
+use Rattle.lf_model.specs.Effect.{Access}
 use Rattle.lf_model.specs.Names.{same_kind}
 use Rattle.lf_model.specs.Operation.{stores, kind_stores, made}
 use Rattle.lf_model.specs.declared.bus.Entry.{Entry}

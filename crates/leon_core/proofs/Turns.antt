@@ -1,5 +1,5 @@
 -- A turn on the bus after which a core goes on keeps all that holds of the core.
-use Rattle.std.proofs.Common.{◌≡◌, ◌∙◌, ◌+◌, ◌<◌, ◌≤◌, ◌==◌, ◌++◌, ◌&&◌, ℕ, Bool, true, false, List, [], ◌∷◌, None, length, nat_le, refl, ap, sym, subst, arith, if◌then◌else◌}
+use Rattle.std.proofs.Common.{◌≡◌, ◌∙◌, ◌+◌, ◌<◌, ◌≤◌, ◌++◌, ℕ, Bool, true, false, List, [], ◌∷◌, None, length, nat_le, refl, ap, sym, subst, arith, if◌then◌else◌}
 use Rattle.std.proofs.lemmas.Bool.{lt-leb, le-leb}
 use Rattle.std.specs.Int.{from_bool}
 use Rattle.core_laws.proofs.NextStep.{no_stop_at_limit}
@@ -9,14 +9,14 @@ use Rattle.core_laws.specs.Running.{with_later}
 use Rattle.core_laws.specs.StepsSoFar.{HasStepsSoFar}
 use Rattle.core_parts.specs.CoreValue.{CoreValue}
 use Rattle.core_parts.specs.Moves.{Turns, Exchanges}
-use Rattle.core_parts.specs.Seat.{seat, IsSeat}
+use Rattle.core_parts.specs.Seat.{IsSeat}
 use Rattle.core_parts.specs.declared.phase.Phase.TheVariants.{Between}
 use Rattle.leon_core.proofs.Completing.{Sees, goes_on}
 use Rattle.leon_core.proofs.LaterSeat.{Reaches}
 use Rattle.leon_core.proofs.LocalGround.{place_of}
 use Rattle.leon_core.proofs.Running.{ground_running, RunsOn, holds_on, unended_between, none_begun}
 use Rattle.leon_core.proofs.StepParts.{Parted, steps_as, past_above}
-use Rattle.leon_core.proofs.TurnGround.{turn_place, ground_later, none_met, some_wait, TakesTurn, running_new, limit_new, come, going}
+use Rattle.leon_core.proofs.TurnGround.{turn_place, none_met, some_wait, TakesTurn, running_new, limit_new, come, going}
 use Rattle.leon_core.proofs.TurnParts.{own_then, in_a_step, past_all}
 use Rattle.leon_core.proofs.TurnReach.{after_turn}
 use Rattle.leon_core.proofs.TurnSeat.{TurnsWell, turned, exchanged}
@@ -24,7 +24,7 @@ use Rattle.leon_core.specs.Completes.{Keeps}
 use Rattle.leon_core.specs.CoreOk.{within_steps, past_its_steps, CoreOk}
 use Rattle.leon_core.specs.Lines.{LinesAre}
 use Rattle.lf_model.specs.Course.Core.{Given, Ground, given_by}
-use Rattle.lf_model.specs.Course.Course.{stored_at, with_unseen}
+use Rattle.lf_model.specs.Course.Course.{stored_at}
 use Rattle.lf_model.specs.Course.Progress.{Progress}
 use Rattle.lf_model.specs.Course.Turned.{own_turn, bad_wanted, retires_by}
 use Rattle.lf_model.specs.Ledger.Steps.{own_transfers, is_last_drain}
@@ -34,7 +34,7 @@ use Rattle.lf_model.specs.declared.bus.Entry.{Entry}
 use Rattle.lf_model.specs.declared.bus.Transfer.{Transfer}
 use Rattle.lf_model.specs.declared.bus.TurnKind.TheVariants.{Store, Atomic}
 use Rattle.lf_model.specs.declared.trace.CoreEnd.TheVariants.{Limit}
-use Rattle.std.specs.List.{AllByRecursion as Each, flat_map}
+use Rattle.std.specs.List.{flat_map}
 
 -- log and buffer: the log after the turn, and the stores that wait then
 module _ (old new : CoreValue) (seen : List Entry) (ts us : List Transfer) (t : Transfer) (later : Given) (h : RunsOn old seen ts) (x : TakesTurn old ts us t)
@@ -110,7 +110,6 @@ module _ (old new : CoreValue) (seen : List Entry) (ts us : List Transfer) (t : 
         (limit_new old new seen ts us t later h x keeps given) made counted refl refl refl)
 
     -- ---- by kinds
-
 
     module _ (good : bad_wanted place.run.state.ctl.pc (next_effect ground place) t ≡ None) where
       well : TurnsWell ground (place_of old ts) (flat_map stored_at us) t old new

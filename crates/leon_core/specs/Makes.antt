@@ -1,5 +1,5 @@
 -- Which transfer a core makes at its turn.
-use Rattle.std.specs.Prelude.{ℕ, ◌≡◌, List, [], ◌∷◌, length}
+use Rattle.std.specs.Prelude.{◌≡◌, List, [], ◌∷◌, length}
 use Rattle.core_parts.specs.CoreValue.{CoreValue}
 use Rattle.core_parts.specs.Needs.{kind_of, why_of}
 use Rattle.core_parts.specs.PortState.{Waiting}
