@@ -136,7 +136,7 @@ module _ (byte : ℕ → ℕ) (small : (a : ℕ) → byte a < 256) (addr len i :
 byte_put_small : (a : ℕ) (e : Entry) → byte_put a e < 256
 byte_put_small a e = omega arith
 
-stored_small : (a byte : ℕ) (es : List Entry) → byte < 256 → stored a es byte < 256
+pub stored_small : (a byte : ℕ) (es : List Entry) → byte < 256 → stored a es byte < 256
 stored_small a byte [] small = small
 stored_small a byte (e ∷ es) small = elim (cases_Bool (touches a e)) [
   | inl is ↦ rw is (stored_small a (byte_put a e) es (byte_put_small a e))

@@ -16,7 +16,7 @@ use Rattle.parity_slots.specs.SlotState.{IsAccess}
 
 -- ---- a hit
 
-all_in : (p : ℕ → Bool) (first n j : ℕ) → list_all p (range_with_len first n) ≡ true → first ≤ j → j < first + n → p j ≡ true
+pub all_in : (p : ℕ → Bool) (first n j : ℕ) → list_all p (range_with_len first n) ≡ true → first ≤ j → j < first + n → p j ≡ true
 all_in p first zero j h from below = absurd (omega (arith, from, below))
 all_in p first (suc n) j h from below =
     let parts = and_parts (p first) (list_all p (range_with_len (first + 1) n)) h in
@@ -25,7 +25,7 @@ all_in p first (suc n) j h from below =
       | inr here ↦ let same : first ≡ j = omega (arith, from, here) in subst (λ m. p m ≡ true) same parts.0
     ]
 
-none_in : (p : ℕ → Bool) (first n j : ℕ) → list_any p (range_with_len first n) ≡ false → first ≤ j → j < first + n → p j ≡ false
+pub none_in : (p : ℕ → Bool) (first n j : ℕ) → list_any p (range_with_len first n) ≡ false → first ≤ j → j < first + n → p j ≡ false
 none_in p first zero j h from below = absurd (omega (arith, from, below))
 none_in p first (suc n) j h from below = elim (cases_Bool (p first)) [
   | inl so ↦ let no : true ≡ false = rw so at h in absurd (cc)

@@ -36,3 +36,4 @@ pub mod TurnLines
 pub mod NoneWaits
 pub mod HitReads
 pub mod HitNumber
+pub mod FillBytes
