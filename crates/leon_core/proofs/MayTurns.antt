@@ -120,3 +120,10 @@ drain_last v turn t is kind why step =
     let store : t.kind ≡ Store = kind ∙ ap kind_of is in
     let end : t.why ≡ End = why ∙ ap why_of is in
     rw (store, end, eq-eqb t.step v.setup.config.steps step) refl
+
+-- so any other turn is in a step
+pub in_a_step : (v : CoreValue) (turn : Turn) (t : Transfer) → LeftBy v v.phase → MayTurn v turn → (turn ≡ Drain End → ⊥) → v.steps < v.setup.config.steps
+in_a_step v turn t left may other = elim (cases_lt v.steps v.setup.config.steps) [
+  | inl less ↦ less
+  | inr past ↦ absurd (other (last_drains v turn t left may past).0)
+]

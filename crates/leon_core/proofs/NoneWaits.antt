@@ -1,6 +1,6 @@
 -- No store waits as a step without a turn ends a core: stores drain before it enters error mode, and before a register cell stops it.
-use Rattle.std.proofs.Common.{◌≡◌, ◌+◌, ℕ, Bool, true, false, nat_le, Option, Some, None, refl, arith, inl, inr}
-use Rattle.std.proofs.lemmas.Bool.{cases_Bool, ltb-false}
+use Rattle.std.proofs.Common.{◌<◌, ◌-◌, ◌≡◌, ◌+◌, ℕ, Bool, true, false, nat_le, Option, Some, None, refl, arith, inl, inr}
+use Rattle.std.proofs.lemmas.Bool.{cases_Bool, ltb-false, leb-false}
 use Rattle.leon_core.specs.Calls.{halts_with}
 use Rattle.lf_model.specs.Caches.Look.{LookUp, look}
 use Rattle.lf_model.specs.Caches.Look.LookUp.{Hit, Miss}
@@ -114,3 +114,16 @@ module _ (g : Ground) (k : Progress) (waiting : ℕ) (waits : k.drained + waitin
       let error = enters_error k.run.state e.trap tt_ halts in
       none_by (store_waits k) refl (λ some. trap_disabled (nat_le g.setup.config.window k.quiet) k.run.state.ctl.et (store_waits k) (buffer_full g k)
       (attempt g.setup.image k.run.state e a).outcome error.disabled some (trapped g.setup.image k.run.state e a error.number error.is) h)
+
+-- ---- a store that retires finds room
+
+room_by : (over et waits full : Bool) → step_needs over et waits full Store ≡ NoTurn → full ≡ false
+room_by true et true full h = absurd (cc)
+room_by true et false full h = absurd (cc)
+room_by false et waits true h = absurd (cc)
+room_by false et waits false h = refl
+
+pub room_for_store : (g : Ground) (k : Progress) (waiting : ℕ) → k.drained + waiting ≡ k.stored → next_needs g k Store ≡ NoTurn → waiting < g.setup.config.buffer
+room_for_store g k waiting waits h =
+    let free : nat_le g.setup.config.buffer (k.stored - k.drained) ≡ false = room_by (nat_le g.setup.config.window k.quiet) k.run.state.ctl.et (store_waits k) (buffer_full g k) h in
+    omega (arith, waits, leb-false g.setup.config.buffer (k.stored - k.drained) free)
