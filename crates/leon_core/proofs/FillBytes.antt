@@ -1,5 +1,5 @@
 -- Memory's words as bytes: what an atomic reads, and what a fill puts into a line.
-use Rattle.std.proofs.Common.{◌≡◌, ◌∙◌, ◌+◌, ◌-◌, ◌*◌, ◌/◌, ◌%◌, ◌<◌, ◌≤◌, ℕ, Bool, true, false, not, List, [], ◌∷◌, slice_index, refl, ap, sym, arith}
+use Rattle.std.proofs.Common.{◌≡◌, ◌∙◌, ◌+◌, ◌-◌, ◌*◌, ◌/◌, ◌%◌, ◌<◌, ℕ, Bool, true, false, not, List, [], ◌∷◌, slice_index, refl, ap, sym, arith}
 use Rattle.std.proofs.lemmas.Bool.{and_parts}
 use Rattle.std.specs.Int.{bit_at}
 use Rattle.std.specs.List.{list_all}
@@ -7,7 +7,7 @@ use Rattle.ahb_bus.proofs.NumberBytes.{byte_of_number}
 use Rattle.leon_core.proofs.HitNumber.{stored_small}
 use Rattle.leon_core.proofs.HitReads.{all_in, none_in}
 use Rattle.leon_core.proofs.TurnLines.{HasLine}
-use Rattle.lf_model.specs.Operation.{byte_of, touches}
+use Rattle.lf_model.specs.Operation.{byte_of}
 use Rattle.lf_model.specs.Records.BusRecord.{leaves_text}
 use Rattle.lf_model.specs.Start.{is_text_byte, is_text_word, touches_text, number_at}
 use Rattle.lf_model.specs.Value.{Reads, stored}
