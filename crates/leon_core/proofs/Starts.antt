@@ -1,8 +1,5 @@
 -- A core at reset has seen nothing, and all holds of it.
-use Rattle.std.proofs.Common.{◌≡◌, ◌∙◌, ◌*◌, ℕ, false, [], length, replicate, refl, ap, sym, arith, inl, inr}
-use Rattle.std.proofs.lemmas.Bool.{cases_lt}
-use Rattle.std.proofs.lemmas.List.{get_or-replicate, get_or_past, length-replicate}
-use Rattle.std.specs.Prelude.{slice_index_or}
+use Rattle.std.proofs.Common.{ℕ, [], length, refl, arith}
 use Rattle.core_laws.specs.RunSoFar.{HasRun}
 use Rattle.core_laws.specs.SeenSoFar.{HasSeenSoFar}
 use Rattle.core_laws.specs.StepsSoFar.{HasStepsSoFar}
@@ -11,29 +8,12 @@ use Rattle.core_parts.specs.CoreValue.{start_value}
 use Rattle.leon_core.specs.Lines.{LinesAre}
 use Rattle.core_parts.specs.Phases.{ground_so_far}
 use Rattle.core_parts.specs.Seat.{seat, IsSeat}
-use Rattle.lf_model.specs.Caches.Cache.{empty_cache, slot_at}
-use Rattle.lf_model.specs.Caches.Slot.{empty_slot, holds}
 use Rattle.lf_model.specs.Run.{run}
 use Rattle.lf_model.specs.Start.{initial_byte}
 use Rattle.lf_model.specs.State.{reset}
-use Rattle.lf_model.specs.declared.config.Shape.{Shape}
 use Rattle.lf_model.specs.declared.setup.Setup.{Setup}
-use Rattle.parity_cache.specs.CacheState.{reset_cache}
-use Rattle.parity_cache.specs.Resident.{Holds}
-
--- ---- no byte is resident in a cache at reset
-
-empty_at : (n i : ℕ) → slice_index_or (replicate n empty_slot) i empty_slot ≡ empty_slot
-empty_at n i = elim (cases_lt i n) [
-  | inl within ↦ get_or-replicate n i empty_slot empty_slot within
-  | inr past ↦ get_or_past (replicate n empty_slot) i empty_slot (rw (length-replicate n empty_slot) past)
-]
-
-none_held : (shape : Shape) (slot addr : ℕ) → holds addr (slot_at slot (empty_cache shape)) ≡ false
-none_held shape slot addr = ap (holds addr) (empty_at (shape.ways * shape.sets) slot)
-
-reset_holds : (byte : ℕ → ℕ) (shape : Shape) (flips : ℕ) → Holds byte (reset_cache shape flips)
-reset_holds byte shape flips slot addr fits resident = let held = sym (none_held shape slot addr) ∙ resident.held in cc
+use Rattle.parity_cache.proofs.Bytes.{formed_reset, holds_reset}
+use Rattle.parity_cache.specs.CacheState.{IsCacheShape}
 
 -- ---- the core
 
@@ -86,27 +66,33 @@ module _ (setup : Setup) (core : ℕ) where
     none_lost = search;
   }
 
-  lines_at_start : LinesAre (start_value setup core) [] []
-  lines_at_start = record {
-    data_lines = reset_holds _ setup.config.load_cache (length setup.flips);
-    fetch_lines = reset_holds _ setup.config.fetch_cache (length setup.flips);
+  lines_at_start : IsCacheShape setup.config.load_cache → IsCacheShape setup.config.fetch_cache → LinesAre (start_value setup core) [] []
+  lines_at_start load fetch = record {
+    data_formed = formed_reset setup.config.load_cache (length setup.flips) load;
+    fetch_formed = formed_reset setup.config.fetch_cache (length setup.flips) fetch;
+    data_lines = holds_reset setup.config.load_cache (length setup.flips) load _;
+    fetch_lines = holds_reset setup.config.fetch_cache (length setup.flips) fetch _;
   }
 
-  goes_on_at_start : GoesOn (start_value setup core) [] []
-  goes_on_at_start = record {
+  goes_on_at_start : IsCacheShape setup.config.load_cache → IsCacheShape setup.config.fetch_cache → GoesOn (start_value setup core) [] []
+  goes_on_at_start load fetch = record {
     in_order = refl;
     has_steps = steps_at_start;
     waits = refl;
     has_seen = seen_at_start;
-    lines = lines_at_start;
+    lines = lines_at_start load fetch;
+    unnamed = refl;
   }
 
-  pub ok_at_start : CoreOk (start_value setup core) [] []
-  ok_at_start = record {
+  -- where its caches have shapes that a configuration may give them
+  pub ok_at_start : IsCacheShape setup.config.load_cache → IsCacheShape setup.config.fetch_cache → CoreOk (start_value setup core) [] []
+  ok_at_start load fetch = record {
     log_length = refl;
     turns = refl;
+    in_memory = refl;
     is_seat = seat_at_start;
     has_run = run_at_start;
     right_turns = search;
-    stands = goes_on_at_start;
+    stands = goes_on_at_start load fetch;
+    left = tt;
   }

@@ -58,10 +58,11 @@ module _ (g : Ground) (old new : CoreValue) where
     pub no_register : (tt_ == r_register_access_error) ≡ false
     pub stays : retires_by g t ≡ false
 
-  pub stopped_at_turn : (seat : Progress) (addrs : List ℕ) (t : Transfer) (j tt_ syn : ℕ) → IsSeat old g seat → MeetsBad seat addrs t j tt_
+  -- was: the ground by which it came there
+  pub stopped_at_turn : (was : Ground) (seat : Progress) (addrs : List ℕ) (t : Transfer) (j tt_ syn : ℕ) → IsSeat old was seat → MeetsBad seat addrs t j tt_
       → StopsAtTurn g (with_unseen addrs seat) t j tt_ syn old new → new.phase ≡ Ended (Stop tt_ t.turn syn) → IsSeat new g (own_turn g t (with_unseen addrs seat))
   unfolding own_turn
-  stopped_at_turn seat addrs t j tt_ syn s x r phase = record {
+  stopped_at_turn was seat addrs t j tt_ syn s x r phase = record {
     steps = sym r.steps;
     quiet = sym r.quiet;
     retired = rw x.stays (s.retired ∙ sym r.counted);

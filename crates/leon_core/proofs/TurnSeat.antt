@@ -24,10 +24,11 @@ module _ (g : Ground) (seat : Progress) (addrs : List ℕ) (t : Transfer) (old n
     pub waits : seat.drained + length old.ports.waiting ≡ seat.stored
     pub none_bad : bad_wanted at_turn.run.state.ctl.pc (next_effect g at_turn) t ≡ None
 
-  pub turned : IsSeat old g seat → TurnsWell → retires_by g t ≡ false → Turns g at_turn t old new → new.phase ≡ Between
+  -- was: the ground by which it came there
+  pub turned : (was : Ground) → IsSeat old was seat → TurnsWell → retires_by g t ≡ false → Turns g at_turn t old new → new.phase ≡ Between
       → IsSeat new g (own_turn g t at_turn)
   unfolding own_turn
-  turned s x goes_on r phase = record {
+  turned was s x goes_on r phase = record {
     steps = sym r.steps;
     quiet = sym r.quiet;
     retired = rw goes_on (s.retired ∙ sym r.counted);
@@ -42,10 +43,10 @@ module _ (g : Ground) (seat : Progress) (addrs : List ℕ) (t : Transfer) (old n
     waits = rw phase (rw goes_on (omega (arith, r.waits, x.waits)));
   }
 
-  pub exchanged : IsSeat old g seat → TurnsWell → retires_by g t ≡ true → Exchanges g at_turn t old new → new.phase ≡ Between
+  pub exchanged : (was : Ground) → IsSeat old was seat → TurnsWell → retires_by g t ≡ true → Exchanges g at_turn t old new → new.phase ≡ Between
       → IsSeat new g (own_turn g t at_turn)
   unfolding own_turn
-  exchanged s x retires r phase = record {
+  exchanged was s x retires r phase = record {
     steps = sym r.steps;
     quiet = sym r.quiet;
     retired = rw retires (ap (λ n. n + 1) s.retired ∙ sym r.counted);

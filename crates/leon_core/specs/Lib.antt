@@ -1,4 +1,6 @@
+pub mod Completes
 pub mod Lines
 pub mod Result
 pub mod CoreOk
+pub mod Makes
 pub mod Calls
