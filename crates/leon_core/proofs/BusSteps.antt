@@ -16,7 +16,7 @@ use Rattle.leon_core.proofs.TurnSees.{sees_turn, sees_drain, sees_atomic}
 use Rattle.leon_core.proofs.Completing.{Sees}
 use Rattle.leon_core.proofs.Turns.{Shown, turn_on, exchange_on, drain_on}
 use Rattle.leon_core.specs.Calls.{MayTurn}
-use Rattle.leon_core.specs.Completes.{Keeps, op_of, CompletesNone, Completes}
+use Rattle.core_parts.specs.Completes.{Keeps, op_of, CompletesNone, Completes}
 use Rattle.leon_core.specs.CoreOk.{buffer_of, CoreOk}
 use Rattle.leon_core.specs.Lines.{LinesAre}
 use Rattle.leon_core.specs.Makes.{Makes}

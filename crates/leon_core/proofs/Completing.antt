@@ -7,7 +7,7 @@ use Rattle.core_laws.specs.StepsSoFar.{HasStepsSoFar}
 use Rattle.core_parts.specs.CoreValue.{CoreValue}
 use Rattle.core_parts.specs.PortState.{Waiting}
 use Rattle.leon_core.proofs.StepParts.{Parted, steps_as}
-use Rattle.leon_core.specs.Completes.{op_of, waits_as, CompletesNone, Completes}
+use Rattle.core_parts.specs.Completes.{op_of, waits_as, CompletesNone, Completes}
 use Rattle.leon_core.specs.CoreOk.{last_of, buffer_of, waiting_of, within_steps, past_its_steps, GoesOn}
 use Rattle.leon_core.specs.Lines.{LinesAre}
 use Rattle.lf_model.specs.Course.Core.{is_store}

@@ -21,7 +21,7 @@ use Rattle.leon_core.proofs.LocalSeat.{halted}
 use Rattle.leon_core.proofs.Reaches.{going, seat_between, one_step}
 use Rattle.leon_core.proofs.Running.{ground_running, RunsOn}
 use Rattle.leon_core.proofs.StopSeat.{stopped_by_cell}
-use Rattle.leon_core.specs.Completes.{KeepsTurns}
+use Rattle.core_parts.specs.Completes.{KeepsTurns}
 use Rattle.leon_core.specs.CoreOk.{within_steps, past_its_steps, CoreOk}
 use Rattle.leon_core.specs.Result.{result_of}
 use Rattle.lf_model.specs.Course.Core.{Ground, r_register_access_error, is_stop_at, is_store_stop}

@@ -12,7 +12,7 @@ use Rattle.leon_core.proofs.LaterSeat.{Reaches, reaches_later}
 use Rattle.leon_core.proofs.Reaches.{so_far, read_so_far}
 use Rattle.leon_core.proofs.Running.{ground_running, RunsOn, runs_on, unended_between}
 use Rattle.leon_core.proofs.StepParts.{Parted, parted}
-use Rattle.leon_core.specs.Completes.{KeepsTurns}
+use Rattle.core_parts.specs.Completes.{KeepsTurns}
 use Rattle.leon_core.specs.CoreOk.{within_steps, past_its_steps, CoreOk}
 use Rattle.lf_model.specs.Course.Core.{Ground, given_by, ground_of}
 use Rattle.lf_model.specs.Course.Progress.{Progress}

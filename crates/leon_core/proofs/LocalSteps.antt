@@ -13,7 +13,7 @@ use Rattle.leon_core.proofs.LocalSeat.{NeedsNone, retired}
 use Rattle.leon_core.proofs.Reaches.{going, seat_between, one_step}
 use Rattle.leon_core.proofs.Running.{ground_running, RunsOn, holds_on, unended_between, none_begun}
 use Rattle.leon_core.proofs.StepParts.{steps_as}
-use Rattle.leon_core.specs.Completes.{KeepsTurns}
+use Rattle.core_parts.specs.Completes.{KeepsTurns}
 use Rattle.leon_core.specs.CoreOk.{within_steps, past_its_steps, CoreOk}
 use Rattle.leon_core.specs.Lines.{LinesAre}
 use Rattle.lf_model.specs.Course.LocalStep.{local_step}

@@ -9,7 +9,7 @@ use Rattle.core_laws.proofs.SeenLog.{seen_others}
 use Rattle.core_laws.specs.Running.{with_later}
 use Rattle.core_laws.specs.SeenSoFar.{HasSeenSoFar, losing}
 use Rattle.core_parts.specs.CoreValue.{CoreValue}
-use Rattle.leon_core.specs.Completes.{CompletesNone}
+use Rattle.core_parts.specs.Completes.{CompletesNone}
 use Rattle.leon_core.specs.CoreOk.{buffer_of, waiting_of, GoesOn}
 use Rattle.lf_model.specs.Course.Core.{Ground, given_by, is_store, is_store_stop}
 use Rattle.lf_model.specs.Course.Progress.{Progress}

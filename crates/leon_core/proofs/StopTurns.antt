@@ -26,7 +26,7 @@ use Rattle.leon_core.proofs.StopSeat.{MeetsBad, stopped_at_turn}
 use Rattle.leon_core.proofs.TurnGround.{turn_place, ground_later, none_met, some_wait, ground_new, limit_new, come, going}
 use Rattle.leon_core.proofs.TurnParts.{own_then}
 use Rattle.leon_core.proofs.TurnReach.{after_turn, is_at}
-use Rattle.leon_core.specs.Completes.{Keeps}
+use Rattle.core_parts.specs.Completes.{Keeps}
 use Rattle.leon_core.specs.CoreOk.{within_steps, past_its_steps, CoreOk}
 use Rattle.leon_core.specs.Result.{result_of}
 use Rattle.lf_model.specs.Bus.Words.{word_of}

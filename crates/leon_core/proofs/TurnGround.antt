@@ -14,7 +14,7 @@ use Rattle.leon_core.proofs.LocalGround.{place_of}
 use Rattle.leon_core.proofs.Reaches.{so_far, read_so_far}
 use Rattle.leon_core.proofs.Running.{ground_running, IsUnended, RunsOn}
 use Rattle.leon_core.proofs.TurnReach.{after_others}
-use Rattle.leon_core.specs.Completes.{Keeps}
+use Rattle.core_parts.specs.Completes.{Keeps}
 use Rattle.lf_model.specs.Course.Core.{Given, Ground, given_by, ground_of, is_register_stop}
 use Rattle.lf_model.specs.Course.Course.{stored_at, with_unseen}
 use Rattle.lf_model.specs.Course.Progress.{Progress}

@@ -8,7 +8,7 @@ use Rattle.core_laws.specs.SeenSoFar.{HasSeenSoFar}
 use Rattle.core_parts.specs.CoreValue.{CoreValue}
 use Rattle.core_parts.specs.PortState.{Waiting}
 use Rattle.leon_core.proofs.Completing.{Sees}
-use Rattle.leon_core.specs.Completes.{op_of, CompletesNone, Completes}
+use Rattle.core_parts.specs.Completes.{op_of, CompletesNone, Completes}
 use Rattle.leon_core.specs.CoreOk.{buffer_of, waiting_of, GoesOn}
 use Rattle.lf_model.specs.Course.Core.{is_store}
 use Rattle.lf_model.specs.Effect.{Access, AccessKind}

@@ -20,7 +20,7 @@ use Rattle.leon_core.proofs.TurnGround.{turn_place, none_met, some_wait, TakesTu
 use Rattle.leon_core.proofs.TurnParts.{own_then, in_a_step, past_all}
 use Rattle.leon_core.proofs.TurnReach.{after_turn}
 use Rattle.leon_core.proofs.TurnSeat.{TurnsWell, turned, exchanged}
-use Rattle.leon_core.specs.Completes.{Keeps}
+use Rattle.core_parts.specs.Completes.{Keeps}
 use Rattle.leon_core.specs.CoreOk.{within_steps, past_its_steps, CoreOk}
 use Rattle.leon_core.specs.Lines.{LinesAre}
 use Rattle.lf_model.specs.Course.Core.{Given, Ground, given_by}

@@ -1,4 +1,3 @@
-pub mod Completes
 pub mod Lines
 pub mod Result
 pub mod CoreOk
