@@ -1,1 +1,11 @@
 pub mod Touching
+pub mod PortLemmas
+pub mod StrikeLemmas
+pub mod DueLemmas
+pub mod StepLemmas
+pub mod ValidBits
+pub mod FateLemmas
+pub mod Quiet
+pub mod Stays
+pub mod AtReset
+pub mod Begins

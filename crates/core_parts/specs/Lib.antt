@@ -1,8 +1,17 @@
 pub mod RecordState
 pub mod RecordInside
 pub mod PortState
+pub mod Work
+pub mod SiteInside
+pub mod Reset
+pub mod Inside
+pub mod Strikes
+pub mod Fills
+pub mod Fates
+pub mod CanRun
 pub mod CoreValue
 pub mod Phases
 pub mod Needs
 pub mod Seat
 pub mod Moves
+pub mod Completes

@@ -1,7 +1,8 @@
 ghost use Rattle.std.specs.Prelude.{◌≡◌, ◌+◌, ◌++◌, ◌^◌, ◌<◌, ◌∷◌, [], length, vec_len, IfOk};
 ghost use Rattle.std.specs.Vec.{vec_capacity};
 ghost use Rattle.core_laws.specs.SeenSoFar.{lost_from, losing};
-ghost use Rattle.core_parts.specs.RecordState.{reset_record, op_by};
+ghost use Rattle.core_parts.specs.RecordState.{reset_record};
+ghost use Rattle.core_parts.specs.Work.{with_operation};
 
 use lf_model::bus::OpKind;
 use lf_model::trace::Op;
@@ -145,7 +146,7 @@ impl Record {
     /// An operation retires in the step that is begun.
     pub fn retire(&mut self, made: Operation)
         requires { length self.old.ops < self.old.room }
-        ensures { self.new ≡ record self.old { ops = self.old.ops ++ op_by self.old made ∷ []; seen_by = self.old.seen_by ++ self.old.seen ∷ [] } }
+        ensures { self.new ≡ with_operation made self.old }
     {
         let op = Op {
             got: made.got,

@@ -3,3 +3,12 @@ pub mod KeepLemmas
 pub mod UnitLemmas
 pub mod CleanLemmas
 pub mod VictimLemmas
+pub mod SetPlaces
+pub mod LessResident
+pub mod PutPlaces
+pub mod OwnStore
+pub mod FilledBytes
+pub mod Bytes
+pub mod MaskLemmas
+pub mod MarkLemmas
+pub mod KeptLemmas

@@ -157,6 +157,12 @@ pub look_is : (addr len : ℕ) (cache : Cache) (found : Option ℕ) → found �
 unfolding look
 look_is addr len cache found is = ap (look_by addr len (checked addr cache)) (sym is)
 
+pub look_clean : (addr len : ℕ) (cache : Cache) (found : Option ℕ) → IsCleanSet addr cache → found ≡ matching addr cache → look addr len cache ≡ look_by addr len (record { dropped = false; cache = cache }) found
+unfolding look
+look_clean addr len cache found clean is =
+    ap (λ (k : Checked). look_by addr len k (matching addr k.cache)) (clean_checked addr cache clean)
+    ∙ ap (look_by addr len (record { dropped = false; cache = cache })) (sym is)
+
 pub snooped_is : (addr : ℕ) (cache : Cache) (found : Option ℕ) → found ≡ matching addr (checked addr cache).cache → snooped cache addr ≡ drop_by (checked addr cache).cache found
 unfolding snooped
 snooped_is addr cache found is = ap (drop_by (checked addr cache).cache) (sym is)

@@ -50,6 +50,8 @@ pub struct ParityCache {
     uses: u32,
     tag_errors: u8,
     byte_errors: u8,
+    /// For each set whether a tag byte of it may be struck: where not, a look-up needs no check.
+    may_be_struck: [bool; 256],
 }
 
 impl Model for ParityCache {
@@ -80,7 +82,16 @@ impl ParityCache {
             uses: 0,
             tag_errors: 0,
             byte_errors: 0,
+            may_be_struck: [false; 256],
         })
+    }
+
+    /// The set of an address. The sets are a power of two, so a mask gives it.
+    #[inline(always)]
+    fn set_of(&self, addr: u32) -> u32
+        ensures { result ≡ addr / 32 % self.now.cache.shape.sets }
+    {
+        addr / 32 & (self.shape.sets - 1)
     }
 
     /// The slot of way 0 of the set of an address.
@@ -91,7 +102,7 @@ impl ParityCache {
         ensures some { 1 ≤ self.now.cache.shape.ways }
         ensures fits { result < 2 ^ 32 }
     {
-        (addr / 32 % self.shape.sets * self.shape.ways) as usize
+        (self.set_of(addr) * self.shape.ways) as usize
     }
 
     // ---- the tag check
@@ -112,8 +123,6 @@ impl ParityCache {
     }
 
     /// The set of an address is checked, way by way. Answers whether a way was dropped.
-    #[cold]
-    #[inline(never)]
     fn check_ways(&mut self, addr: u32) -> bool
         ensures dropped { result ≡ (checked addr self.old.cache).dropped }
         ensures checked { self.new ≡ with_cache (checked addr self.old.cache).cache self.old }
@@ -132,21 +141,40 @@ impl ParityCache {
         dropped
     }
 
-    /// Whether no tag byte of the set of an address is struck.
+    /// Whether the set of an address needs no check: no tag byte of it is struck.
     #[inline(always)]
     fn is_clean_set(&self, addr: u32) -> bool
         ensures { result ≡ true → IsCleanSet addr self.now.cache }
     {
-        let first = self.first_slot(addr);
-        for way in 0..self.shape.ways as usize {
-            if self.slots.slot(first + way).has_struck_tag() {
-                return false;
-            }
-        }
-        true
+        !self.may_be_struck[self.set_of(addr) as usize]
     }
 
-    /// The same as `check_ways`, at no more cost than a test of each way where no tag byte of the set is struck.
+    /// The mark of the set of an address is cleared. No tag byte of it is struck.
+    fn clear_mark(&mut self, addr: u32)
+        requires { IsCleanSet addr self.old.cache }
+        ensures { self.new ≡ self.old }
+    {
+        let set = self.set_of(addr) as usize;
+        self.may_be_struck[set] = false;
+    }
+
+    /// The same as `check_ways`, and then the set is known to be clean.
+    #[cold]
+    #[inline(never)]
+    fn check_marked(&mut self, addr: u32) -> bool
+        ensures dropped { result ≡ (checked addr self.old.cache).dropped }
+        ensures checked { self.new ≡ with_cache (checked addr self.old.cache).cache self.old }
+        ensures clean { IsCleanSet addr self.new.cache }
+        ensures stays { StaysClean self.old.cache self.new.cache }
+        ensures uses { self.new.cache.uses ≡ self.old.cache.uses }
+        ensures keeps { Keeps 0 self.old self.new }
+    {
+        let dropped = self.check_ways(addr);
+        self.clear_mark(addr);
+        dropped
+    }
+
+    /// The same, at no more cost than a test where no tag byte of the set is struck.
     #[inline(always)]
     fn check_set(&mut self, addr: u32) -> bool
         ensures dropped { result ≡ (checked addr self.old.cache).dropped }
@@ -159,7 +187,7 @@ impl ParityCache {
         if self.is_clean_set(addr) {
             return false;
         }
-        self.check_ways(addr)
+        self.check_marked(addr)
     }
 
     // ---- the slots of a set
@@ -260,7 +288,44 @@ impl ParityCache {
         ensures keeps { Keeps 1 self.old self.new }
         ensures fits { FitsIn len result }
     {
-        let dropped = self.check_set(addr);
+        if self.is_clean_set(addr) {
+            self.look_in_clean(addr, len)
+        } else {
+            self.look_in_struck(addr, len)
+        }
+    }
+
+    /// The look-up in a set in which no tag byte is struck, which needs no check.
+    #[inline(always)]
+    fn look_in_clean(&mut self, addr: u32, len: u8) -> Look
+        requires access { IsAccess addr len }
+        requires unstruck { IsCleanSet addr self.old.cache }
+        requires room { self.old.cache.uses + 1 < 2 ^ 32 }
+        ensures answer { result ≡ answer_of addr len self.old (look addr len self.old.cache).answer }
+        ensures looked { self.new ≡ with_cache (look addr len self.old.cache).cache self.old }
+        ensures clean { IsCleanSet addr self.new.cache }
+        ensures keeps { Keeps 1 self.old self.new }
+        ensures fits { FitsIn len result }
+    {
+        match self.matching(addr) {
+            Some(i) => self.look_in(i, addr, len),
+            None => Look::Miss(Why::Absent),
+        }
+    }
+
+    /// The look-up in a set that is checked first.
+    #[cold]
+    #[inline(never)]
+    fn look_in_struck(&mut self, addr: u32, len: u8) -> Look
+        requires access { IsAccess addr len }
+        requires room { self.old.cache.uses + 1 < 2 ^ 32 }
+        ensures answer { result ≡ answer_of addr len self.old (look addr len self.old.cache).answer }
+        ensures looked { self.new ≡ with_cache (look addr len self.old.cache).cache self.old }
+        ensures clean { IsCleanSet addr self.new.cache }
+        ensures keeps { Keeps 1 self.old self.new }
+        ensures fits { FitsIn len result }
+    {
+        let dropped = self.check_marked(addr);
         match self.matching(addr) {
             Some(i) => self.look_in(i, addr, len),
             None => Look::Miss(absent_cause(dropped)),
@@ -409,6 +474,7 @@ impl ParityCache {
         let i = self.slot_of(at);
         let byte = usize::from(at.byte);
         if at.tag {
+            self.may_be_struck[usize::from(at.set)] = true;
             self.slots.flip_tag(i, byte, number, bit)
         } else {
             self.slots.flip_line(i, byte, number, bit)

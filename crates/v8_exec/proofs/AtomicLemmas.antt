@@ -1,6 +1,5 @@
 -- LDSTUB and SWAP: the effect of an instruction whose operation is an atomic.
-use Rattle.std.proofs.Common.{◌≡◌, ℕ, ◌∷◌, [], List, Bool, cond, true, false, Option, Some, None, unwrap_or, refl, sym, ap, ◌∙◌, ◌==◌, fold}
-use Rattle.lf_model.specs.Course.Touches.{write_touches}
+use Rattle.std.proofs.Common.{◌≡◌, ℕ, ◌∷◌, [], List, Bool, cond, true, false, Option, Some, None, unwrap_or, refl, sym, ap, ◌∙◌, ◌==◌}
 use Rattle.lf_model.specs.Start.{output_word}
 use Rattle.lf_model.specs.State.{State, advanced, with_register}
 use Rattle.lf_model.specs.Effect.{Site, AccessKind, Access, Effect, with_reads, cell_written, sum_of_operands}
@@ -27,8 +26,7 @@ use Rattle.lf_model.specs.declared.step.Look.{Look}
 use Rattle.lf_model.specs.declared.step.Look.TheVariants.{Hit, Miss}
 use Rattle.lf_model.specs.declared.step.RegBad.{RegBad}
 use Rattle.lf_model.specs.declared.step.Turn.TheVariants.{Atomic, Drain, Load}
-use Rattle.lf_model.specs.declared.touch.Touch.{Touch}
-use Rattle.v8_exec.specs.Accesses.{atomic_access, IsAccessing, Finishes, WritesAtEnd}
+use Rattle.v8_exec.specs.Accesses.{atomic_access, IsAccessing, Finishes}
 
 -- ---- the operation of an effect
 
@@ -267,9 +265,8 @@ finished i parts addr len new rd got old next before after state ops site is =
     ∙ ap (λ (t : Site). with_access t.core got (Some (atomic_access addr len new rd)) before.ops) site
     ∙ ap (λ (x : Option Access). with_access before.site.core got x before.ops) (sym access))
 
-pub written : {X : Type 0} (touch : X → Touch → X) (i : Instr) (parts : Parts) (addr len new rd : ℕ) (old : Arch) (before : Seen) (x y : X)
-    → y ≡ fold touch x (write_touches (cell_written (state_of old before) rd)) → WritesAtEnd touch i parts (atomic_access addr len new rd) old before x y
-written touch i parts addr len new rd old before x y ends is =
-    let s = state_of old before in
-    let e = effect before.site s i in
-    ends ∙ ap (λ (cells : List ℕ). fold touch x (write_touches cells)) (sym ((ends_effect before.site s i).writes addr len new rd (needs_atomic parts s e addr len new rd is)))
+-- an instruction that needs the turn of an atomic writes the cell of its register alone
+pub atomic_writes : (site : Site) (parts : Parts) (s : State) (i : Instr) (addr len new rd : ℕ)
+    → came_to parts s (effect site s i) ≡ Need (Atomic addr len new rd) → (effect site s i).writes ≡ cell_written s rd
+atomic_writes site parts s i addr len new rd is =
+    (ends_effect site s i).writes addr len new rd (needs_atomic parts s (effect site s i) addr len new rd is)

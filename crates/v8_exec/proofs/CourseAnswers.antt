@@ -127,7 +127,7 @@ module _ (parts : Parts) (s : State) (e : Effect) (apart : IsApart s e) where
   trap_cells a None = operation_cells a e.access
   trap_cells a (Some tt_) = refl
 
-  -- behind its reads an instruction that is tried touches no cell
+  -- after its reads an instruction that is tried touches no cell
   register_cells : (a : Arrays) (bad : Option ℕ) → (register_attempt e a bad).arrays.cells ≡ a.cells
   register_cells a None = trap_cells a e.trap
   register_cells a (Some cell) = refl

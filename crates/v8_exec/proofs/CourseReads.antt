@@ -158,7 +158,7 @@ module _ (parts : Parts) (window : ℕ) where
       syndrome_of_bad (history_at bad.cell left) bad.syn
       (sym (syndrome_read_is left answers bad.cell) ∙ ap (λ (b : RegBad). syndrome_read parts b.cell) (sym same) ∙ reads ∙ ap (λ (b : RegBad). Some b.syn) same)
 
-  -- its syndrome is that of the cell's history, behind the reads as before
+  -- its syndrome is that of the cell's history, after the reads as before them
   pub syndrome_found : (ns : List ℕ) (cells : List (List Moment)) (bad : RegBad) → parts.bad ≡ map bad_syndrome cells → first_bad parts window ns ≡ Some bad
       → syndrome (history_at bad.cell (read_cells (cells_of window ns) cells).cells) ≡ bad.syn
   unfolding Finds

@@ -42,7 +42,7 @@ module _ (flips : List (ℕ × Flip)) (parts : Parts) (s : State) (e : Effect) (
   traps a None is = operates a e.access
   traps a (Some tt_) is = rw (apart.trapped tt_ is) refl
 
-  -- behind a bad register nothing is looked up
+  -- after a bad register nothing is looked up
   acts : (a : Arrays) (found : Option RegBad) (bad : Option ℕ) → bad ≡ option_map cell_of found
       → fold (touched flips) a (unless_bad (is_some found) (looks_of e.access)) ≡ (register_attempt e a bad).arrays
   acts a None bad is = rw is (traps a e.trap refl)

@@ -16,7 +16,7 @@ use Rattle.lf_model.specs.declared.step.Did.{Did}
 use Rattle.lf_model.specs.declared.step.Did.TheVariants.{Stop}
 use Rattle.lf_model.specs.declared.step.RegBad.{RegBad}
 use Rattle.lf_model.specs.declared.touch.Touch.{Touch}
-use Rattle.v8_exec.specs.Frame.{DoesBehind}
+use Rattle.v8_exec.specs.Frame.{DoesAfterReads}
 use Rattle.v8_exec.specs.Touching.{reads_of, looks_of, retires_of, acts_of, touches_of}
 
 -- ---- which registers an effect reads
@@ -33,7 +33,7 @@ effect-reads site s i = unless_trap-reads (ordinary_trap site s i) s (with_reads
 -- ---- what it comes to
 
 pub does_good : (core : ℕ) (parts : Parts) (e : Effect) (registers : List ℕ) (did : Did) (old new : Run)
-    → e.reads ≡ registers → first_bad parts old.state.ctl.cwp registers ≡ None → DoesBehind core parts e did old new → Does core parts e did old new
+    → e.reads ≡ registers → first_bad parts old.state.ctl.cwp registers ≡ None → DoesAfterReads core parts e did old new → Does core parts e did old new
 does_good core parts e registers did old new reads good does =
     let none : first_bad parts old.state.ctl.cwp e.reads ≡ None = ap (λ (l : List ℕ). first_bad parts old.state.ctl.cwp l) reads ∙ good in
     record { answer = rw none does.answer; leaves = does.leaves }
@@ -69,7 +69,7 @@ touches_good {X = X} touch parts window e registers did x y reads good both =
     (ap (λ (l : List ℕ). first_bad parts window l) reads ∙ good) refl
     (both ∙ ap (λ (l : List ℕ). fold touch (fold touch x (reads_of parts window l)) (acts_of e did)) (sym reads))
 
--- behind a bad register there are no others, since the instruction doesn't retire
+-- after a bad register there are no others, since the instruction doesn't retire
 pub touches_bad : {X : Type 0} (touch : X → Touch → X) (parts : Parts) (window : ℕ) (e : Effect) (registers : List ℕ) (bad : RegBad) (did : Did) (x y : X)
     → e.reads ≡ registers → first_bad parts window registers ≡ Some bad → retires_of e did ≡ []
     → y ≡ fold touch x (reads_of parts window registers) → y ≡ fold touch x (touches_of parts window e did)

@@ -1,4 +1,3 @@
-mod AtomicLemmas
 mod CheckLemmas
 mod CodeLemmas
 mod SizeLemmas
@@ -7,6 +6,7 @@ mod LoadLemmas
 mod ReadLemmas
 mod TrapLemmas
 mod TurnLemmas
+pub mod AtomicLemmas
 pub mod EffectShape
 pub mod CourseReads
 pub mod CourseTouches

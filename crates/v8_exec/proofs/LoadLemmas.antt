@@ -11,7 +11,7 @@ use Rattle.lf_model.specs.declared.control.Arch.{Arch}
 use Rattle.lf_model.specs.declared.step.Did.TheVariants.{Retired}
 use Rattle.lf_model.specs.declared.instruction.MemName.{MemName}
 use Rattle.v8_exec.specs.Accesses.{load_access, Reads}
-use Rattle.v8_exec.specs.Frame.{DoesBehind, Keeps}
+use Rattle.v8_exec.specs.Frame.{DoesAfterReads, Keeps}
 
 same_run : (s t : State) (p q : List Entry) → s ≡ t → p ≡ q → ◌≡◌ {A = Run} (record { state = s; ops = p }) (record { state = t; ops = q })
 same_run s t p q states ops = rw states (rw ops refl)
@@ -20,7 +20,7 @@ same_run s t p q states ops = rw states (rw ops refl)
 pub operation_does : (seen mid after : Seen) (parts : Parts) (a b : Arch) (access : Access) (cells : List ℕ) (next : ℕ → State) (value : ℕ)
     → access_row parts (Some access) ≡ None → answer_of parts (Some access) ≡ value → mid ≡ recorded value access seen
     → state_of b after ≡ next value → after.ops ≡ mid.ops
-    → DoesBehind seen.site.core parts (operates access cells next) Retired (run_seen a seen) (run_seen b after)
+    → DoesAfterReads seen.site.core parts (operates access cells next) Retired (run_seen a seen) (run_seen b after)
 operation_does seen mid after parts a b access cells next value row answer record_made state ops = record {
   answer = rw row refl;
   leaves = same_run (state_of b after) (next (answer_of parts (Some access))) after.ops (with_access seen.site.core (answer_of parts (Some access)) (Some access) seen.ops)
@@ -49,7 +49,7 @@ operation_keeps seen mid after a b access value spare between left record_made o
 pub load_does : (seen mid after : Seen) (parts : Parts) (a b : Arch) (name : MemName) (addr rd len got value : ℕ)
     → len ≡ size_of name → Reads parts addr len seen mid got → value ≡ extended name got
     → state_of b after ≡ advanced (with_register rd value (state_of a mid)) → after.ops ≡ mid.ops
-    → DoesBehind seen.site.core parts (load_effect name addr rd (state_of a seen)) Retired (run_seen a seen) (run_seen b after)
+    → DoesAfterReads seen.site.core parts (load_effect name addr rd (state_of a seen)) Retired (run_seen a seen) (run_seen b after)
 load_does seen mid after parts a b name addr rd len got value size reads is state ops =
     let here : Reads parts addr (size_of name) seen mid got = subst (λ (n : ℕ). Reads parts addr n seen mid got) size reads in
     let next : ℕ → State = λ v. advanced (with_register rd (extended name v) (state_of a seen)) in
@@ -64,7 +64,7 @@ pub load_double_does : (seen mid wrote after : Seen) (parts : Parts) (a b : Arch
     → Reads parts addr 8 seen mid got → high ≡ got / 2 ^ 32 → low ≡ got % 2 ^ 32
     → state_of a wrote ≡ with_register rd high (state_of a mid) → wrote.ops ≡ mid.ops
     → state_of b after ≡ advanced (with_register (rd + 1) low (state_of a wrote)) → after.ops ≡ wrote.ops
-    → DoesBehind seen.site.core parts (load_double_effect addr rd (state_of a seen)) Retired (run_seen a seen) (run_seen b after)
+    → DoesAfterReads seen.site.core parts (load_double_effect addr rd (state_of a seen)) Retired (run_seen a seen) (run_seen b after)
 load_double_does seen mid wrote after parts a b addr rd got high low reads high_is low_is first first_ops second second_ops =
     let next : ℕ → State = λ v. advanced (with_words rd v (state_of a seen)) in
     let one : state_of a wrote ≡ with_register rd (got / 2 ^ 32) (state_of a seen) = first ∙ ap (λ (v : ℕ). with_register rd v (state_of a mid)) high_is

@@ -20,7 +20,7 @@ module _ (parts : Parts) (window : ℕ) where
   one (Some bad) r xs ys later = sym (append_none (r ++ []))
   one None r xs ys later = rw append_assoc (ap (λ (l : List Touch). r ++ l) later)
 
-  -- behind a register that is bad no further one is read
+  -- after a register that is bad no further one is read
   pub reads_of-append : (xs ys : List ℕ)
       → reads_of parts window (xs ++ ys) ≡ reads_of parts window xs ++ unless_bad (is_some (first_bad parts window xs)) (reads_of parts window ys)
   reads_of-append [] ys = refl

@@ -10,7 +10,7 @@ use Rattle.lf_model.specs.declared.control.Ctl.{Ctl}
 use Rattle.lf_model.specs.declared.instruction.Src.{Src}
 use Rattle.lf_model.specs.declared.step.Did.{Did}
 use Rattle.lf_model.specs.declared.step.Did.TheVariants.{Retired, Turned, Need, Halt, Stop}
-use Rattle.v8_exec.specs.Frame.{DoesBehind}
+use Rattle.v8_exec.specs.Frame.{DoesAfterReads}
 
 -- ---- trap entry
 
@@ -21,7 +21,7 @@ same_run s t r states = rw states refl
 pub trap_entered : (seen after : Seen) (parts : Parts) (a : Arch) (ctl : Ctl) (tt_ window : ℕ)
     → a.ctl.et ≡ true → (entered tt_ (state_of a seen)).ctl ≡ ctl → window ≡ handler_window a.ctl.cwp
     → after ≡ record seen { cells = slice_set (slice_set seen.cells (cell window 17) a.ctl.pc) (cell window 18) a.ctl.npc }
-    → DoesBehind seen.site.core parts (trap_effect tt_ (state_of a seen)) Retired (run_seen a seen) (run_seen (record a { ctl = ctl }) after)
+    → DoesAfterReads seen.site.core parts (trap_effect tt_ (state_of a seen)) Retired (run_seen a seen) (run_seen (record a { ctl = ctl }) after)
 trap_entered seen after parts a ctl tt_ window enabled control own written = record {
   answer = rw enabled refl;
   leaves = rw written (rw own (rw (sym control) (rw enabled refl)));
@@ -33,7 +33,7 @@ not_false false h = absurd (h refl)
 
 -- ---- an ordinary trap
 
--- the registers that an effect has read make no difference behind them
+-- the registers that an effect has read make no difference after they are read
 reads_apart : (core : ℕ) (parts : Parts) (did : Did) (registers : List ℕ) (e : Effect) (r : Run)
     → run_after core parts did (with_reads registers e) r ≡ run_after core parts did e r
 reads_apart core parts Retired registers e r = refl
@@ -44,7 +44,7 @@ reads_apart core parts (Stop tt_ place syn) registers e r = refl
 
 -- the trap that an instruction takes is in place of its effect
 pub trap_does : (core : ℕ) (parts : Parts) (trap : Option ℕ) (tt_ : ℕ) (s : State) (e : Effect) (did : Did) (old new : Run)
-    → trap ≡ Some tt_ → DoesBehind core parts (trap_effect tt_ s) did old new → DoesBehind core parts (unless_trap trap s e) did old new
+    → trap ≡ Some tt_ → DoesAfterReads core parts (trap_effect tt_ s) did old new → DoesAfterReads core parts (unless_trap trap s e) did old new
 trap_does core parts trap tt_ s e did old new is does = rw is (record { answer = does.answer; leaves = does.leaves ∙ sym (reads_apart core parts did e.reads (trap_effect tt_ s) old) })
 
 pub sum_read : (s : State) (rs1 : ℕ) (src : Src) (x y : ℕ) → x ≡ register s rs1 → y ≡ operand s src → (x + y) % 2 ^ 32 ≡ sum_of_operands s rs1 src

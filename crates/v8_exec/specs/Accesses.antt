@@ -1,6 +1,5 @@
 -- What loads, stores and atomics need of the fields of their instruction, read from its registers, and ask of the bus.
-use Rattle.std.specs.Prelude.{ℕ, ◌≡◌, ◌*◌, ◌^◌, ◌<◌, ⊤, ◌++◌, List, Some, None, Result, Ok, Err, fold, false, true, Bool, ◌==◌, ◌||◌}
-use Rattle.lf_model.specs.Course.Touches.{write_touches}
+use Rattle.std.specs.Prelude.{ℕ, ◌≡◌, ◌*◌, ◌^◌, ◌<◌, ⊤, ◌++◌, List, Some, None, Result, Ok, Err, false, true, Bool, ◌==◌, ◌||◌}
 use Rattle.lf_model.specs.Start.{touches_text}
 use Rattle.lf_model.specs.State.{State}
 use Rattle.lf_model.specs.Instructions.{operand_registers, stored_registers}
@@ -19,7 +18,6 @@ use Rattle.lf_model.specs.declared.step.Did.TheVariants.{Retired, Turned, Need, 
 use Rattle.lf_model.specs.declared.step.RegBad.{RegBad}
 use Rattle.lf_model.specs.declared.step.Turn.{Turn}
 use Rattle.lf_model.specs.declared.step.Turn.TheVariants.{Fetch, Load, Atomic, Drain, Snoop}
-use Rattle.lf_model.specs.declared.touch.Touch.{Touch}
 use Rattle.v8_exec.specs.Reading.{IsAccess}
 use Rattle.v8_exec.specs.declared.operands.Request.{Request}
 
@@ -121,9 +119,3 @@ abbrev pub Finishes : Instr → Parts → Access → ℕ → Arch → Arch → S
 Finishes i parts x got old next before after =
     came_to parts (state_of old before) (effect before.site (state_of old before) i) ≡ Need (Atomic x.addr x.len x.put x.rd)
     → run_seen next (recorded got x after) ≡ performed before.site.core got (effect before.site (state_of old before) i) (run_seen old before)
-
--- and it writes the cells of its effect as it ends
-abbrev pub WritesAtEnd : {X : Type 0} → (X → Touch → X) → Instr → Parts → Access → Arch → Seen → X → X → Type 0
-WritesAtEnd touch i parts x old seen before after =
-    came_to parts (state_of old seen) (effect seen.site (state_of old seen) i) ≡ Need (Atomic x.addr x.len x.put x.rd)
-    → after ≡ fold touch before (write_touches (effect seen.site (state_of old seen) i).writes)

@@ -16,19 +16,20 @@ abbrev pub bad_in : {A : Type 0} → Result A RegBad → Option RegBad
 bad_in (Ok x) = None
 bad_in (Err bad) = Some bad
 
--- ---- behind the registers
+-- ---- after the registers are read
 
 -- what an instruction comes to whose registers are good: the first row that holds, and else it retires
-abbrev pub came_behind : Parts → State → Effect → Did
-came_behind parts s e = unwrap_or (first_row (trap_row parts s.ctl.et e.trap ∷ access_row parts e.access ∷ barrier_row parts e.barrier ∷ [])) Retired
+abbrev pub came_after_reads : Parts → State → Effect → Did
+came_after_reads parts s e =
+    unwrap_or (first_row (trap_row parts s.ctl.et e.trap ∷ access_row parts e.access ∷ barrier_row parts e.barrier ∷ [])) Retired
 
 -- an instruction with this effect, whose registers are good, comes to this and leaves that
-pub record DoesBehind (core : ℕ) (parts : Parts) (e : Effect) (did : Did) (old new : Run) : Type 0 where
-  pub answer : did ≡ came_behind parts old.state e
+pub record DoesAfterReads (core : ℕ) (parts : Parts) (e : Effect) (did : Did) (old new : Run) : Type 0 where
+  pub answer : did ≡ came_after_reads parts old.state e
   pub leaves : new ≡ run_after core parts did e old
 
 abbrev pub Makes : Effect → Parts → Did → Arch → Arch → Seen → Seen → Type 0
-Makes e parts did old new before after = DoesBehind before.site.core parts e did (run_seen old before) (run_seen new after)
+Makes e parts did old new before after = DoesAfterReads before.site.core parts e did (run_seen old before) (run_seen new after)
 
 -- the same of an instruction with its own effect
 abbrev pub Performs : Instr → Parts → Did → Arch → Arch → Seen → Seen → Type 0
@@ -36,24 +37,23 @@ Performs i parts did old new before after = Makes (effect before.site (state_of 
 
 -- ---- what stays
 
--- the bounds of the state registers, the core's number and the count of instructions, and where it runs; an operation made is
--- counted, and room for records is taken by an instruction that is counted alone
-pub record Keeps (did : Did) (old new : Arch) (before after : Seen) (spare left : ℕ) : Type 0 where
+-- the state registers stay within their bounds, the core keeps its number and where it runs, and so many instructions are counted by
+-- now; an operation made is counted, and room for records is taken by an instruction that is counted alone
+pub record KeepsWithCount (count : ℕ) (did : Did) (old new : Arch) (before after : Seen) (spare left : ℕ) : Type 0 where
   pub sound : IsSound new
   pub core : new.core ≡ old.core
-  pub n : new.n ≡ old.n
+  pub n : new.n ≡ count
   pub k : new.k + length before.ops ≡ old.k + length after.ops
   pub site : after.site ≡ before.site
   pub room : spare ≤ left + counted did
 
--- the same for a step that counts its instruction
-pub record Counts (did : Did) (old new : Arch) (before after : Seen) (spare left : ℕ) : Type 0 where
-  pub sound : IsSound new
-  pub core : new.core ≡ old.core
-  pub n : new.n ≡ old.n + counted did
-  pub k : new.k + length before.ops ≡ old.k + length after.ops
-  pub site : after.site ≡ before.site
-  pub room : spare ≤ left + counted did
+-- an instruction that its step has still to count
+abbrev pub Keeps : Did → Arch → Arch → Seen → Seen → ℕ → ℕ → Type 0
+Keeps did old new before after spare left = KeepsWithCount old.n did old new before after spare left
+
+-- a step, which counts its instruction
+abbrev pub Counts : Did → Arch → Arch → Seen → Seen → ℕ → ℕ → Type 0
+Counts did old new before after spare left = KeepsWithCount (old.n + counted did) did old new before after spare left
 
 -- an instruction that answers a bad register leaves all but what its reads touched: the architecture, what the core shows, and what
 -- its parts answer

@@ -21,7 +21,7 @@ abbrev pub IsSource : Src → Type 0
 IsSource (Reg n) = n < 32
 IsSource (Imm i) = i < 2 ^ 13
 
--- the doubleword forms have a register behind rd
+-- the doubleword forms have a register after rd
 abbrev pub HasPair : MemName → ℕ → Type 0
 HasPair Ldd rd = rd + 1 < 32
 HasPair Std rd = rd + 1 < 32

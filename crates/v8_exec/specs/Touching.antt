@@ -38,7 +38,7 @@ looks_of None = []
 looks_of (Some x) = looks_by x x.kind
 
 -- only an instruction that retires updates the data cache, empties the caches or writes cells; one that halts the core writes
--- none. An atomic comes to the need of its turn, and its cells are written behind that.
+-- none. An atomic comes to the need of its turn, and its cells are written after that.
 abbrev pub retires_of : Effect → Did → List Touch
 retires_of e Retired = retire_touches e
 retires_of e Turned = []
@@ -60,11 +60,12 @@ touches_of parts window e did =
 -- ---- instructions that answer the register that is bad
 
 -- an instruction whose register is bad does no more than read
-abbrev pub acts_behind : Effect → Result Did RegBad → List Touch
-acts_behind e (Ok did) = acts_of e did
-acts_behind e (Err bad) = []
+abbrev pub acts_after_reads : Effect → Result Did RegBad → List Touch
+acts_after_reads e (Ok did) = acts_of e did
+acts_after_reads e (Err bad) = []
 
 -- an instruction reads its registers, and then does what it came to
 abbrev pub Touches : {X : Type 0} → (X → Touch → X) → Instr → Parts → Result Did RegBad → Arch → Seen → X → X → Type 0
 Touches touch i parts result old seen before after =
-    after ≡ fold touch (fold touch before (reads_of parts old.ctl.cwp (registers_read i))) (acts_behind (effect seen.site (state_of old seen) i) result)
+    after ≡ fold touch (fold touch before (reads_of parts old.ctl.cwp (registers_read i)))
+    (acts_after_reads (effect seen.site (state_of old seen) i) result)

@@ -108,7 +108,7 @@ pub struct Request {
     pub value: u64,
 }
 
-/// The number that an access stores: from register `rd`, and then from the one behind it.
+/// The number that an access stores: from register `rd`, and then from the one after it.
 fn read_number<P: Ports>(a: &Arch, name: MemName, rd: u8, p: &mut P) -> Result<u64, RegBad>
     requires window { a.now.ctl.cwp < 8 }
     requires register { rd < 32 }
@@ -140,7 +140,7 @@ fn read_number<P: Ports>(a: &Arch, name: MemName, rd: u8, p: &mut P) -> Result<u
     }
 }
 
-/// What an access reads, in the order rs1, rs2, `rd` and the register behind it.
+/// What an access reads, in the order rs1, rs2, `rd` and the register after it.
 pub fn read_request<P: Ports>(
     a: &Arch,
     name: MemName,

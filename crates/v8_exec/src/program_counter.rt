@@ -2,7 +2,7 @@ ghost use Rattle.std.specs.Prelude.{◌≡◌, ◌+◌, ◌*◌, ◌%◌, ◌^�
 
 use lf_model::control::Arch;
 
-/// So many words behind an address.
+/// The address so many words after this one.
 pub fn displaced(addr: u32, words: u32) -> u32
     ensures { result ≡ (addr + 4 * words) % 2 ^ 32 }
 {

@@ -4,7 +4,7 @@ ghost use Rattle.lf_model.specs.Effect.{cell_written};
 ghost use Rattle.lf_model.specs.State.{advanced, with_register};
 ghost use Rattle.lf_model.specs.Step.{IsSound, Parts, state_of};
 ghost use Rattle.lf_model.specs.declared.instruction.Instr.{Instr};
-ghost use Rattle.v8_exec.specs.Accesses.{atomic_access, Finishes, WritesAtEnd};
+ghost use Rattle.v8_exec.specs.Accesses.{atomic_access, Finishes};
 
 use crate::operands::write_register;
 use crate::ports::Ports;
@@ -18,7 +18,9 @@ pub fn retire_with<P: Ports>(a: &mut Arch, rd: u8, value: u32, p: &mut P)
     requires register { rd < 32 }
     ensures state { state_of a.new (P.seen p.new) ≡ advanced (with_register rd value (state_of a.old (P.seen p.old))) }
     ensures sound { IsSound a.new }
-    ensures counts { (a.new.core ≡ a.old.core) × (a.new.n ≡ a.old.n) × (a.new.k ≡ a.old.k + 1) }
+    ensures core { a.new.core ≡ a.old.core }
+    ensures instructions { a.new.n ≡ a.old.n }
+    ensures operations { a.new.k ≡ a.old.k + 1 }
     ensures site { (P.seen p.new).site ≡ (P.seen p.old).site }
     ensures ops { (P.seen p.new).ops ≡ (P.seen p.old).ops }
     ensures touches { P.state p.new ≡ fold P.touch (P.state p.old) (write_touches (cell_written (state_of a.old (P.seen p.old)) rd)) }
@@ -39,10 +41,12 @@ pub fn finish_atomic<P: Ports>(a: &mut Arch, rd: u8, got: u32, p: &mut P)
     ensures finishes { (i : Instr) (parts : Parts) (addr len new : ℕ) → Finishes i parts (atomic_access addr len new rd) got a.old a.new (P.seen p.old) (P.seen p.new) }
     ensures state { state_of a.new (P.seen p.new) ≡ advanced (with_register rd got (state_of a.old (P.seen p.old))) }
     ensures sound { IsSound a.new }
-    ensures counts { (a.new.core ≡ a.old.core) × (a.new.n ≡ a.old.n + 1) × (a.new.k ≡ a.old.k + 1) }
+    ensures core { a.new.core ≡ a.old.core }
+    ensures instructions { a.new.n ≡ a.old.n + 1 }
+    ensures operations { a.new.k ≡ a.old.k + 1 }
     ensures site { (P.seen p.new).site ≡ (P.seen p.old).site }
     ensures ops { (P.seen p.new).ops ≡ (P.seen p.old).ops }
-    ensures touches { (i : Instr) (parts : Parts) (addr len new : ℕ) → WritesAtEnd P.touch i parts (atomic_access addr len new rd) a.old (P.seen p.old) (P.state p.old) (P.state p.new) }
+    ensures touches { P.state p.new ≡ fold P.touch (P.state p.old) (write_touches (cell_written (state_of a.old (P.seen p.old)) rd)) }
     ensures room { P.room p.old ≤ P.room p.new }
 {
     retire_with(a, rd, got, p);

@@ -105,7 +105,9 @@ fn names_no_window(name: StateName, value: u32) -> bool
 fn set_psr(ctl: &mut Ctl, value: u32)
     requires { value % 32 < 8 }
     ensures parts { ctl.new ≡ psr_parts value ctl.old }
-    ensures bounds { (ctl.new.icc < 16) × (ctl.new.pil < 16) × (ctl.new.cwp < 8) }
+    ensures codes { ctl.new.icc < 16 }
+    ensures level { ctl.new.pil < 16 }
+    ensures window { ctl.new.cwp < 8 }
 {
     ctl.icc = (value >> 20 & 15) as u8;
     ctl.pil = (value >> 8 & 15) as u8;
@@ -129,7 +131,9 @@ fn set_state(a: &mut Arch, name: StateName, value: u32)
     requires window { names_no_window name value ≡ false }
     ensures sound { IsSound a.new }
     ensures state { (seen : Seen) → state_of a.new seen ≡ with_state name value (state_of a.old seen) }
-    ensures counts { (a.new.core ≡ a.old.core) × (a.new.n ≡ a.old.n) × (a.new.k ≡ a.old.k) }
+    ensures core { a.new.core ≡ a.old.core }
+    ensures instructions { a.new.n ≡ a.old.n }
+    ensures operations { a.new.k ≡ a.old.k }
 {
     match name {
         StateName::Y => a.y = value,

@@ -1,4 +1,4 @@
-use Rattle.std.proofs.Common.{[], ◌∷◌, false, sym, ap, ◌∙◌, arith}
+use Rattle.std.proofs.Common.{[], ◌∷◌, sym, ap, ◌∙◌, arith}
 use Rattle.parity_units.specs.declared.byte.ParityByte.{ParityByte}
 use Rattle.parity_slots.proofs.WordLemmas.{byte_of_words, byte_of_word, unmarked, follows_unmarked}
 use Rattle.parity_slots.proofs.parity_word.note_word.Goals as goal

@@ -14,5 +14,5 @@ returns-in-Ok-clause-keeps g c =
     c.args.a.now c.retire_with.new.a (load_access c.args.addr c.size.result 0) c.in-Ok.value
     (g.P.Ports.room c.args.p.now) (g.P.Ports.room c.look.new.p) (g.P.Ports.room c.retire_with.new.p)
     (c.in-Ok.ensures.looks.made 0) c.retire_with.ensures.ops c.retire_with.ensures.site
-    c.retire_with.ensures.sound c.retire_with.ensures.counts.0 c.retire_with.ensures.counts.1 c.retire_with.ensures.counts.2
+    c.retire_with.ensures.sound c.retire_with.ensures.core c.retire_with.ensures.instructions c.retire_with.ensures.operations
     c.in-Ok.ensures.room c.retire_with.ensures.room

@@ -3,6 +3,7 @@ use Rattle.lf_model.specs.Caches.Change.{flushed}
 use Rattle.lf_model.specs.Caches.Slot.{Slot}
 use Rattle.parity_cache.specs.CacheState.{with_cache}
 use Rattle.parity_cache.specs.Kept.{seen}
+use Rattle.parity_cache.proofs.MarkLemmas.{marked_below}
 use Rattle.parity_cache.proofs.SetLemmas.{dropped_below, dropped_length, dropped_next, dropped_all}
 use Rattle.parity_cache.proofs.cache.ParityCache.drop_all.Goals as goal
 
@@ -14,6 +15,8 @@ invariant_of-self c = rw c.loop-i.invariant (record {
   slots = dropped_length c.loop-i.i c.self.inside.slots.slots ∙ c.self.invariant.slots;
   tag_errors = c.self.invariant.tag_errors;
   byte_errors = c.self.invariant.byte_errors;
+  marks = c.self.invariant.marks;
+  marked = marked_below c.self.inside.may_be_struck c.self.inside.shape.ways c.loop-i.i c.self.inside.slots.slots c.self.invariant.marked;
 })
 
 pub drop_line-requires : goal.drop_line-requires

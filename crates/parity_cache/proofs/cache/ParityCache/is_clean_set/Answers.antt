@@ -1,19 +1,14 @@
-use Rattle.std.proofs.Common.{◌≡◌, ℕ, ◌+◌, ◌≤◌, false, sym, ap, ◌∙◌, subst, inl, inr, arith}
-use Rattle.std.proofs.lemmas.Bool.{cases_eq}
-use Rattle.lf_model.specs.Caches.Cache.{slot_at}
-use Rattle.lf_model.specs.Caches.Slot.{has_struck_tag}
-use Rattle.parity_slots.specs.SlotState.{SlotState}
+use Rattle.std.proofs.Common.{◌≡◌, ℕ, ◌+◌, ◌*◌, ◌/◌, ◌%◌, ◌<◌, false, length, slice_index_or, arith, subst}
+use Rattle.std.proofs.lemmas.Nat.{mod_below}
+use Rattle.lf_model.specs.Caches.Slot.{empty_slot, has_struck_tag}
+use Rattle.parity_cache.proofs.MarkLemmas.{marked_set, clear_mark}
 use Rattle.parity_cache.proofs.cache.ParityCache.is_clean_set.Goals as goal
 
-pub loop-way-preserved : goal.loop-way-preserved
-loop-way-preserved c = λ w lt. elim (cases_eq w c.loop-way.way) [
-  | inl here ↦
-      subst (λ (v : ℕ). has_struck_tag (slot_at (c.first_slot-first.result + v) c.args.self.now.cache) ≡ false) (sym here)
-      (rw (← c.self.view_is) (sym (ap (λ (t : SlotState). has_struck_tag t.slot) c.slot.ensures) ∙ sym c.has_struck_tag.ensures ∙ c.if-has_struck_tag.false))
-  | inr other ↦ c.loop-way.invariant w (omega (arith, lt, other))
-]
-
 pub returns : goal.returns
-returns c = λ is way lt.
-    let many : c.args.self.now.cache.shape.ways ≤ c.loop-way.way = rw (← c.self.view_is) c.loop-way-test.false in
-    rw (← c.first_slot-first.ensures.first) (c.loop-way.invariant way (omega (arith, lt, many)))
+returns c = λ clear.
+    let is : c.set_of.result ≡ c.args.addr / 32 % c.self.inside.shape.sets = rw (← c.self.view_is) at c.set_of.ensures in
+    let below = mod_below (c.args.addr / 32) c.self.inside.shape.sets c.self.invariant.some_set in
+    let within : c.set_of.result < length c.self.inside.may_be_struck = omega (arith, is, below, c.self.invariant.few_sets, c.self.invariant.marks) in
+    rw (← c.self.view_is) (λ way lt.
+    subst (λ (set : ℕ). has_struck_tag (slice_index_or c.self.inside.slots.slots (set * c.self.inside.shape.ways + way) empty_slot) ≡ false) is
+    (marked_set c.self.inside.may_be_struck c.self.inside.shape.ways c.self.inside.slots.slots c.set_of.result way lt c.self.invariant.marked (clear_mark c.self.inside.may_be_struck c.set_of.result within clear)))
