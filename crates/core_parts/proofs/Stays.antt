@@ -1,6 +1,6 @@
 -- What holds of the arrays of a core and the script stays, where no flip strikes: as touches of instructions and turns go.
-use Rattle.std.proofs.Common.{◌≡◌, ℕ, ◌+◌, ◌*◌, ◌≤◌, Bool, true, false, List, [], ◌∷◌, length, refl, sym, ap, ◌∙◌, subst, arith}
-use Rattle.std.specs.Prelude.{fold, slice_get}
+use Rattle.std.proofs.Common.{◌≡◌, ℕ, ◌+◌, ◌*◌, ◌≤◌, Bool, true, false, List, [], ◌∷◌, refl, sym, ap, ◌∙◌, subst, arith}
+use Rattle.std.specs.Prelude.{fold}
 use Rattle.core_parts.proofs.PortLemmas.{uses_of, look_uses}
 use Rattle.core_parts.proofs.Quiet.{StruckIn, QuietCache, QuietArrays, quiet_touch, quiet_touches}
 use Rattle.core_parts.proofs.Spares.{AllSpare, fetch_uses_stay}
@@ -8,7 +8,7 @@ use Rattle.core_parts.proofs.StrikeLemmas.{units_stay}
 use Rattle.core_parts.specs.CanRun.{CanRun}
 use Rattle.core_parts.specs.Inside.{state_in, room_in, uses_left}
 use Rattle.core_parts.specs.PortState.{arrays_in, answers}
-use Rattle.core_parts.specs.Strikes.{arrays_of, unit_at, IsOfArrays, history_of, AimsAt, IsFor, CameAs, Came}
+use Rattle.core_parts.specs.Strikes.{arrays_of, unit_at, history_of, AimsAt, IsFor, Came}
 use Rattle.core_parts.specs.Work.{WorkState, work_touch, load_made}
 use Rattle.core_parts.specs.declared.arrays.Arrays.{Arrays}
 use Rattle.core_parts.specs.declared.parts.Parts.{Parts}
@@ -17,7 +17,7 @@ use Rattle.flip_ledger.specs.Plan.{target_of}
 use Rattle.flip_ledger.specs.declared.plan.Target.{Target}
 use Rattle.flip_ledger.specs.declared.plan.Target.TheVariants.{Word, Register, Tag, Line}
 use Rattle.lf_model.proofs.EachLemmas.{each_weaker}
-use Rattle.lf_model.specs.Caches.Cache.{Cache, slot_at}
+use Rattle.lf_model.specs.Caches.Cache.{slot_at}
 use Rattle.lf_model.specs.Caches.Look.{LookUp, look}
 use Rattle.lf_model.specs.Caches.Look.LookUp.{Hit as Hits, Miss as Misses}
 use Rattle.lf_model.specs.Course.Arrays.{Arrays as CourseArrays}
