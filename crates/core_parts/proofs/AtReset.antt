@@ -1,27 +1,23 @@
 -- The parts of a core at reset: they are those of its value then, and no flip struck them.
-use Rattle.std.proofs.Common.{◌≡◌, ℕ, zero, suc, ◌*◌, ◌+◌, ◌<◌, ◌≤◌, Bool, true, false, cond, List, [], ◌∷◌, length, map, refl, sym, ap, ◌∙◌, subst, arith}
+use Rattle.std.proofs.Common.{◌≡◌, ℕ, zero, suc, ◌*◌, ◌+◌, ◌<◌, Bool, true, false, cond, List, [], length, refl, sym, ap, ◌∙◌, arith}
 use Rattle.std.specs.Prelude.{replicate, slice_index_or}
 use Rattle.std.specs.List.{AllByRecursion}
 use Rattle.std.specs.Vec.{vec_capacity}
 use Rattle.std.proofs.lemmas.List.{length-replicate}
 use Rattle.core_parts.specs.CanRun.{CanRun}
-use Rattle.core_parts.specs.CoreValue.{CoreValue, start_value}
-use Rattle.core_parts.specs.Inside.{StartsAt, value_of, room_in}
+use Rattle.core_parts.specs.CoreValue.{start_value}
+use Rattle.core_parts.specs.Inside.{StartsAt, value_of}
 use Rattle.core_parts.specs.RecordState.{RecordState}
-use Rattle.core_parts.specs.Reset.{reset_registers}
-use Rattle.core_parts.specs.Strikes.{arrays_of, unit_at, history_of, IsOfArrays, AimsAt, IsFor, Came}
-use Rattle.core_parts.specs.declared.arrays.Arrays.{Arrays}
+use Rattle.core_parts.specs.Strikes.{arrays_of, unit_at, history_of, AimsAt}
 use Rattle.core_parts.specs.declared.parts.Parts.{Parts}
 use Rattle.core_parts.specs.declared.phase.Phase.TheVariants.{Between}
 use Rattle.flip_ledger.specs.Follows.{has_struck}
 use Rattle.flip_ledger.specs.declared.plan.Target.{Target}
 use Rattle.flip_ledger.specs.declared.plan.Target.TheVariants.{Word, Register, Tag, Line}
-use Rattle.lf_model.specs.Caches.Cache.{empty_cache, slot_at}
+use Rattle.lf_model.specs.Caches.Cache.{empty_cache}
 use Rattle.lf_model.specs.Caches.Slot.{Slot, empty_slot, history_at}
 use Rattle.lf_model.specs.Course.Arrays.{reset_arrays, register_cells}
-use Rattle.lf_model.specs.Course.Arrays.{Arrays as CourseArrays}
 use Rattle.lf_model.specs.Flips.{Moment}
-use Rattle.lf_model.specs.Ledger.FlipFate.{cache_in}
 use Rattle.lf_model.specs.State.{reset}
 use Rattle.lf_model.specs.declared.config.Config.{Config}
 use Rattle.lf_model.specs.declared.config.Shape.{Shape}

@@ -5,7 +5,6 @@ use Rattle.core_parts.specs.Inside.{room_in, uses_left}
 use Rattle.core_parts.specs.Strikes.{arrays_of, with_arrays, own_flips, IsFor, Came}
 use Rattle.core_parts.specs.declared.arrays.Arrays.{Arrays}
 use Rattle.core_parts.specs.declared.parts.Parts.{Parts}
-use Rattle.lf_model.specs.Caches.Cache.{Cache}
 use Rattle.lf_model.specs.Caches.Slot.{befalls}
 use Rattle.lf_model.specs.Course.Arrays.{struck_by, struck_tag, struck_line, with_cache, strike, begun}
 use Rattle.lf_model.specs.Course.Arrays.{Arrays as CourseArrays}

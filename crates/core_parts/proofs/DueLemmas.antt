@@ -1,26 +1,21 @@
 -- The flips of a step strike the arrays of a core, one after the other.
-use Rattle.std.proofs.Common.{◌≡◌, ℕ, zero, suc, ◌+◌, ◌<◌, ◌≤◌, Bool, true, false, cond, nat_eq, List, [], ◌∷◌, ◌++◌, length, map, Option, Some, None, refl, sym, ap, ◌∙◌, subst, ◌⊎◌, inl, inr, ⊎_elim, append_assoc, arith}
-use Rattle.std.specs.Prelude.{fold, slice_get, filter, All}
+use Rattle.std.proofs.Common.{◌≡◌, ℕ, zero, suc, ◌+◌, ◌<◌, ◌≤◌, Bool, true, false, cond, nat_eq, List, [], ◌∷◌, ◌++◌, length, map, Option, Some, None, refl, sym, ap, ◌∙◌, subst, ◌⊎◌, inl, inr, ⊎_elim, arith}
+use Rattle.std.specs.Prelude.{fold, slice_get, All}
 use Rattle.std.specs.List.{AllByRecursion}
 use Rattle.std.proofs.lemmas.Bool.{cases_Bool, eq-eqb, eqb-true}
-use Rattle.std.proofs.lemmas.List.Elements.{All-cons, All-nil, All-head, All-tail}
-use Rattle.std.proofs.lemmas.List.Sums.{fold_push}
-use Rattle.core_parts.specs.Strikes.{arrays_of, with_arrays, own_flips, IsOfArrays, history_of, bits_of, struck_in, with_strike, MayStrikeAt, MayStrike, AimsAt, IsFor, CameAs, Came, IsAlong, unit_at, cache_of}
-use Rattle.core_parts.specs.declared.arrays.Arrays.{Arrays}
-use Rattle.core_parts.proofs.StrikeLemmas.{in_arrays, shapes, units_stay, cells_stay}
-use Rattle.flip_ledger.proofs.PlanLemmas.{strikes_from, strikes_numbered, given, planned_next}
+use Rattle.std.proofs.lemmas.List.Elements.{All-cons, All-head, All-tail}
+use Rattle.core_parts.specs.Strikes.{IsOfArrays, history_of, bits_of, with_strike, AimsAt, CameAs, Came}
+use Rattle.core_parts.proofs.StrikeLemmas.{in_arrays, shapes, units_stay}
+use Rattle.flip_ledger.proofs.PlanLemmas.{strikes_from, strikes_numbered}
 use Rattle.flip_ledger.specs.Follows.{has_struck}
-use Rattle.flip_ledger.specs.Plan.{is_of, time_of, target_of, bit_of, strike_of, strikes_of, is_at, due_at, IsPlanned, GivesDue}
+use Rattle.flip_ledger.specs.Plan.{time_of, target_of, strike_of, strikes_of, due_at}
 use Rattle.flip_ledger.specs.declared.plan.Owner.TheVariants.{Core}
 use Rattle.flip_ledger.specs.declared.plan.Strike.{Strike}
 use Rattle.flip_ledger.specs.declared.plan.Target.{Target}
-use Rattle.flip_ledger.specs.declared.plan.Target.TheVariants.{Word, Register, Tag, Line}
 use Rattle.lf_model.proofs.EachLemmas.{each_first, each_second, each_weaker}
 use Rattle.lf_model.specs.Course.Arrays.{strike, begun}
 use Rattle.lf_model.specs.Course.Arrays.{Arrays as CourseArrays}
 use Rattle.lf_model.specs.Course.Core.{strikes_core}
-use Rattle.lf_model.specs.Ledger.FlipFate.{cache_in}
-use Rattle.lf_model.specs.Strikes.{numbered_flips}
 use Rattle.lf_model.specs.declared.flip.Flip.{Flip}
 use Rattle.lf_model.specs.declared.flip.Flip.TheVariants as flips
 

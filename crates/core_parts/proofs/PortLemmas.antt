@@ -1,9 +1,9 @@
 -- What the parts of a core answer an instruction, and what each call of it leaves of them.
-use Rattle.std.proofs.Common.{◌≡◌, ◌==◌, ◌||◌, ℕ, ◌+◌, ◌<◌, Bool, true, false, cond, List, [], ◌∷◌, ◌++◌, length, map, slice_index, slice_index_or, Option, Some, None, Ok, Err, refl, sym, ap, ◌∙◌, arith}
+use Rattle.std.proofs.Common.{◌≡◌, ℕ, ◌+◌, Bool, true, false, cond, List, [], ◌∷◌, ◌++◌, length, map, slice_index, slice_index_or, Option, Some, None, Ok, Err, refl, sym, ap, ◌∙◌, arith}
 use Rattle.std.specs.Prelude.{◌-◌, ◌≤◌, fold, not, min}
 use Rattle.std.proofs.Math.ListN.{get_or-map}
 use Rattle.std.proofs.lemmas.List.{map-append, length-map, length-append}
-use Rattle.core_parts.specs.PortState.{Waiting, bad_syndrome}
+use Rattle.core_parts.specs.PortState.{bad_syndrome}
 use Rattle.core_parts.specs.RecordState.{RecordState, op_by}
 use Rattle.core_parts.specs.Work.{waiting_in, with_operation, load_made}
 use Rattle.core_parts.specs.declared.record.Operation.{Operation}
@@ -13,10 +13,9 @@ use Rattle.lf_model.specs.Caches.Change.{updated, update_by}
 use Rattle.lf_model.specs.Caches.Look.{Checked, check_way, checked, Looked, LookUp, look, look_in, look_by}
 use Rattle.lf_model.specs.Caches.Look.LookUp.{Hit as Hits, Miss as Misses}
 use Rattle.lf_model.specs.Caches.Slot.{history_at, has_struck_tag, has_wanted_words, has_struck_byte, dropped_by_tag, dropped_by_byte}
-use Rattle.lf_model.specs.Effect.{Access}
 use Rattle.lf_model.specs.Flips.{is_bad_word, syndrome}
 use Rattle.lf_model.specs.Operation.{made}
-use Rattle.lf_model.specs.Step.{Seen, read_by, after_look, after_store}
+use Rattle.lf_model.specs.Step.{read_by}
 use Rattle.lf_model.specs.declared.bus.Pending.{Pending}
 use Rattle.lf_model.specs.declared.bus.Why.TheVariants as whys
 use Rattle.lf_model.specs.declared.step.Look.{Look}

@@ -1,5 +1,5 @@
 -- No touch of an instruction or of a turn makes a flip strike: a flip that has struck a unit after it had struck that unit before.
-use Rattle.std.proofs.Common.{◌≡◌, ℕ, zero, suc, ◌+◌, ◌*◌, ◌<◌, Bool, true, false, cond, List, [], ◌∷◌, length, map, Option, Some, None, slice_set, slice_index_or, refl, sym, ap, ◌∙◌, subst, ⊎_elim}
+use Rattle.std.proofs.Common.{◌≡◌, ℕ, zero, suc, ◌+◌, Bool, true, false, cond, List, [], ◌∷◌, length, map, Option, Some, None, slice_index_or, refl, ◌∙◌, ⊎_elim}
 use Rattle.std.specs.Prelude.{fold, not}
 use Rattle.std.proofs.lemmas.List.{length-set}
 use Rattle.core_parts.proofs.StrikeLemmas.{changed}

@@ -1,12 +1,12 @@
 -- An instruction that reached its turn or retired left the uses of the fetch cache as they were: only a fetch and its fill use it.
-use Rattle.std.proofs.Common.{◌≡◌, ℕ, ◌+◌, Bool, true, false, cond, nat_eq, List, [], ◌∷◌, ◌++◌, map, Option, Some, None, is_some, refl, ◌∙◌}
+use Rattle.std.proofs.Common.{◌≡◌, ℕ, Bool, true, false, cond, nat_eq, List, [], ◌∷◌, ◌++◌, Option, Some, None, is_some, refl, ◌∙◌}
 use Rattle.std.specs.Prelude.{fold}
 use Rattle.std.specs.List.{AllByRecursion}
 use Rattle.core_parts.specs.Work.{WorkState, work_touch}
 use Rattle.lf_model.proofs.EachLemmas.{each_append}
 use Rattle.lf_model.specs.Caches.Change.{flushed}
 use Rattle.lf_model.specs.Course.Core.{is_store_kind}
-use Rattle.lf_model.specs.Course.Touches.{unless_bad, store_touches, access_touches, barrier_touches, write_touches, retire_touches}
+use Rattle.lf_model.specs.Course.Touches.{unless_bad, access_touches, barrier_touches, write_touches, retire_touches}
 use Rattle.lf_model.specs.Effect.{AccessKind, Access, Effect, operation_kind}
 use Rattle.lf_model.specs.Names.{same_why}
 use Rattle.lf_model.specs.State.{cell}

@@ -1,6 +1,6 @@
 -- What holds of the arrays of a core and the script stays, where no flip strikes: as touches of instructions and turns go.
-use Rattle.std.proofs.Common.{◌≡◌, ℕ, ◌+◌, ◌*◌, ◌≤◌, Bool, true, false, List, [], ◌∷◌, length, refl, sym, ap, ◌∙◌, subst, arith}
-use Rattle.std.specs.Prelude.{fold, slice_get}
+use Rattle.std.proofs.Common.{◌≡◌, ℕ, ◌+◌, ◌*◌, ◌≤◌, Bool, true, false, List, [], ◌∷◌, refl, sym, ap, ◌∙◌, subst, arith}
+use Rattle.std.specs.Prelude.{fold}
 use Rattle.core_parts.proofs.PortLemmas.{uses_of, look_uses}
 use Rattle.core_parts.proofs.Quiet.{StruckIn, QuietCache, QuietArrays, quiet_touch, quiet_touches}
 use Rattle.core_parts.proofs.Spares.{AllSpare, fetch_uses_stay}
@@ -8,7 +8,7 @@ use Rattle.core_parts.proofs.StrikeLemmas.{units_stay}
 use Rattle.core_parts.specs.CanRun.{CanRun}
 use Rattle.core_parts.specs.Inside.{state_in, room_in, uses_left}
 use Rattle.core_parts.specs.PortState.{arrays_in, answers}
-use Rattle.core_parts.specs.Strikes.{arrays_of, unit_at, IsOfArrays, history_of, AimsAt, IsFor, CameAs, Came}
+use Rattle.core_parts.specs.Strikes.{arrays_of, unit_at, history_of, AimsAt, IsFor, Came}
 use Rattle.core_parts.specs.Work.{WorkState, work_touch, load_made}
 use Rattle.core_parts.specs.declared.arrays.Arrays.{Arrays}
 use Rattle.core_parts.specs.declared.parts.Parts.{Parts}
@@ -17,7 +17,7 @@ use Rattle.flip_ledger.specs.Plan.{target_of}
 use Rattle.flip_ledger.specs.declared.plan.Target.{Target}
 use Rattle.flip_ledger.specs.declared.plan.Target.TheVariants.{Word, Register, Tag, Line}
 use Rattle.lf_model.proofs.EachLemmas.{each_weaker}
-use Rattle.lf_model.specs.Caches.Cache.{Cache, slot_at}
+use Rattle.lf_model.specs.Caches.Cache.{slot_at}
 use Rattle.lf_model.specs.Caches.Look.{LookUp, look}
 use Rattle.lf_model.specs.Caches.Look.LookUp.{Hit as Hits, Miss as Misses}
 use Rattle.lf_model.specs.Course.Arrays.{Arrays as CourseArrays}
@@ -174,3 +174,21 @@ can_run_looked begun addr p c is runs =
       room = runs.room;
       fetch_room = omega (arith, shown, uses, room);
     }
+
+-- a core that can run can run on after a turn, which ends so many steps (0 or 1) and lets no flip strike
+pub can_run_turned : (begun looked ended : ℕ) (old new : Parts) → CanRun begun looked old → QuietArrays (arrays_of old.arrays) (arrays_of new.arrays)
+    → new.arrays.registers.flips ≡ old.arrays.registers.flips → new.arrays.fetch_cache.flips ≡ old.arrays.fetch_cache.flips → new.arrays.data_cache.flips ≡ old.arrays.data_cache.flips
+    → new.site ≡ old.site → new.record.core ≡ old.record.core → new.record.steps ≡ old.record.steps + ended → room_in old ≤ room_in new + ended
+    → uses_left old.arrays.fetch_cache + looked ≤ uses_left new.arrays.fetch_cache + ended → CanRun begun 0 new
+can_run_turned begun looked ended old new runs quiet cells fetch loads site core steps taken fetched = record {
+  units = rw (core, site) (units_of_script_stay old.record.core old.site.flips old.arrays new.arrays quiet cells fetch loads runs.units);
+  came = rw (core, site) (came_stays (arrays_of old.arrays) (arrays_of new.arrays) quiet old.site.flips old.record.core begun runs.came);
+  room =
+      let limit : new.site.config.steps ≡ old.site.config.steps = ap (λ (s : Setup). s.config.steps) site in
+      let room : old.site.config.steps ≤ room_in old + old.record.steps = runs.room in
+      omega (arith, steps, limit, room, taken);
+  fetch_room =
+      let limit : new.site.config.steps ≡ old.site.config.steps = ap (λ (s : Setup). s.config.steps) site in
+      let room : old.site.config.steps ≤ uses_left old.arrays.fetch_cache + (old.record.steps + looked) = runs.fetch_room in
+      omega (arith, steps, limit, room, fetched);
+}

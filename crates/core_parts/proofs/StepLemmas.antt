@@ -4,7 +4,7 @@ use Rattle.std.specs.Prelude.{fold, slice_get, All}
 use Rattle.std.specs.List.{AllByRecursion}
 use Rattle.std.proofs.lemmas.List.Elements.{All-cons, All-nil}
 use Rattle.std.proofs.lemmas.List.Sums.{fold_push}
-use Rattle.core_parts.specs.Strikes.{arrays_of, with_arrays, own_flips, IsOfArrays, history_of, bits_of, with_strike, MayStrikeAt, MayStrike, AimsAt, IsFor, Came, IsAlong, unit_at, cache_of}
+use Rattle.core_parts.specs.Strikes.{arrays_of, with_arrays, own_flips, IsOfArrays, history_of, bits_of, with_strike, MayStrikeAt, MayStrike, AimsAt, IsFor, Came, IsAlong, unit_at}
 use Rattle.core_parts.specs.declared.arrays.Arrays.{Arrays}
 use Rattle.core_parts.proofs.StrikeLemmas.{shapes, units_stay, cells_stay}
 use Rattle.core_parts.proofs.DueLemmas.{begun_by_due, Ascends, All_append, due_run, got_within, IsOfScript, due, due_each, due_ascends, due_is, next_to_come, came_next}
@@ -15,13 +15,12 @@ use Rattle.flip_ledger.specs.declared.plan.Owner.TheVariants.{Core}
 use Rattle.flip_ledger.specs.declared.plan.Strike.{Strike}
 use Rattle.flip_ledger.specs.declared.plan.Target.{Target}
 use Rattle.flip_ledger.specs.declared.plan.Target.TheVariants.{Word, Register, Tag, Line}
-use Rattle.lf_model.proofs.EachLemmas.{each_first, each_second, each_weaker}
+use Rattle.lf_model.proofs.EachLemmas.{each_second, each_weaker}
 use Rattle.lf_model.specs.Course.Arrays.{begun, register_cells}
 use Rattle.lf_model.specs.Course.Arrays.{Arrays as CourseArrays}
 use Rattle.lf_model.specs.Ledger.FlipFate.{cache_in}
 use Rattle.lf_model.specs.declared.flip.Flip.{Flip}
-use Rattle.parity_cache.specs.CacheState.{CacheState}
-use Rattle.parity_cache.specs.CacheUnits.{IsUnit, history_of_unit, IsToCome}
+use Rattle.parity_cache.specs.CacheUnits.{IsUnit, history_of_unit}
 
 -- ---- a strike may be made
 

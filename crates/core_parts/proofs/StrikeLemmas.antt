@@ -1,5 +1,5 @@
 -- What a flip makes of the arrays of a core: it strikes its own unit, and no other.
-use Rattle.std.proofs.Common.{◌≡◌, ℕ, zero, suc, ◌+◌, ◌*◌, ◌/◌, ◌<◌, Bool, true, false, ◌||◌, cond, nat_eq, List, [], ◌∷◌, length, slice_set, slice_index_or, refl, sym, ap, ◌∙◌, subst, ◌⊎◌, inl, inr, ⊎_elim, arith}
+use Rattle.std.proofs.Common.{◌≡◌, ℕ, zero, suc, ◌+◌, ◌*◌, ◌/◌, ◌<◌, Bool, true, false, ◌||◌, nat_eq, List, [], ◌∷◌, length, slice_set, slice_index_or, refl, sym, ap, ◌∙◌, subst, ◌⊎◌, inl, inr, ⊎_elim, arith}
 use Rattle.std.specs.Prelude.{fold}
 use Rattle.std.proofs.lemmas.Bool.{cases_Bool, eqb-true}
 use Rattle.std.proofs.lemmas.List.{length-set}
@@ -15,7 +15,7 @@ use Rattle.lf_model.specs.Course.Arrays.{struck_by, with_cache}
 use Rattle.lf_model.specs.Course.Arrays.{Arrays as CourseArrays}
 use Rattle.lf_model.specs.Flips.{Moment}
 use Rattle.lf_model.specs.Ledger.FlipFate.{cache_in}
-use Rattle.parity_cache.specs.CacheUnits.{IsUnit, slot_of_unit, history_of_unit, struck_at}
+use Rattle.parity_cache.specs.CacheUnits.{IsUnit, history_of_unit, struck_at}
 use Rattle.parity_cache.specs.declared.unit.Unit.{Unit as CacheUnit}
 
 -- ---- one element of a list is replaced

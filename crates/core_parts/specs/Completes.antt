@@ -1,5 +1,5 @@
 -- What a step or a turn leaves of a core's setup, of its operations, and of the stores that wait.
-use Rattle.std.specs.Prelude.{ℕ, ◌≡◌, ◌++◌, List, [], ◌∷◌, length, Option, Some, None, if◌then◌else◌}
+use Rattle.std.specs.Prelude.{ℕ, ◌≡◌, ◌++◌, [], ◌∷◌, length, if◌then◌else◌}
 use Rattle.core_parts.specs.CoreValue.{CoreValue}
 use Rattle.core_parts.specs.PortState.{Waiting}
 use Rattle.lf_model.specs.Course.Core.{is_store}

@@ -1,5 +1,5 @@
 -- What the parts of a core show an instruction: their state, what it reads of them, and how much they can still record.
-use Rattle.std.specs.Prelude.{ℕ, ◌≡◌, ◌^◌, ◌-◌, ◌≤◌, [], List, map, length, min}
+use Rattle.std.specs.Prelude.{ℕ, ◌≡◌, ◌-◌, [], List, map, length, min}
 use Rattle.std.specs.Vec.{vec_capacity}
 use Rattle.core_parts.specs.CoreValue.{CoreValue}
 use Rattle.core_parts.specs.PortState.{PortState}

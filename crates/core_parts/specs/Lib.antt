@@ -15,3 +15,4 @@ pub mod Needs
 pub mod Seat
 pub mod Moves
 pub mod Completes
+pub mod Makes
