@@ -19,7 +19,7 @@ use Rattle.leon_core.specs.Calls.{MayTurn}
 use Rattle.core_parts.specs.Completes.{Keeps, op_of, CompletesNone, Completes}
 use Rattle.leon_core.specs.CoreOk.{buffer_of, CoreOk}
 use Rattle.leon_core.specs.Lines.{LinesAre}
-use Rattle.leon_core.specs.Makes.{Makes}
+use Rattle.core_parts.specs.Makes.{Makes}
 use Rattle.lf_model.specs.Course.Core.{given_by}
 use Rattle.lf_model.specs.Course.Turned.{bad_wanted}
 use Rattle.lf_model.specs.Effect.{Access, AccessKind}

@@ -18,7 +18,7 @@ use Rattle.leon_core.proofs.LocalGround.{place_of}
 use Rattle.leon_core.proofs.Running.{ground_running, IsUnended, RunsOn, runs_on}
 use Rattle.leon_core.proofs.TurnGround.{turn_place}
 use Rattle.leon_core.specs.Calls.{Joins, MayTurn}
-use Rattle.leon_core.specs.Makes.{Makes}
+use Rattle.core_parts.specs.Makes.{Makes}
 use Rattle.leon_core.specs.Result.{result_of}
 use Rattle.lf_model.specs.Course.Course.{stored_at, course}
 use Rattle.lf_model.specs.Ledger.FlipFate.{flip_fates}

@@ -16,7 +16,7 @@ use Rattle.leon_core.proofs.TurnGround.{turn_place, some_wait}
 use Rattle.leon_core.proofs.TurnTargets.{Front, front_is}
 use Rattle.leon_core.specs.Calls.{MayTurnBy, MayTurn}
 use Rattle.leon_core.specs.CoreOk.{buffer_of, LeftBy}
-use Rattle.leon_core.specs.Makes.{IsOfFront, Makes}
+use Rattle.core_parts.specs.Makes.{IsOfFront, Makes}
 use Rattle.lf_model.specs.Course.Core.{Ground}
 use Rattle.lf_model.specs.Course.Course.{stored_at}
 use Rattle.lf_model.specs.Course.Progress.{Progress, store_waits}

@@ -4,7 +4,7 @@ use Rattle.std.proofs.lemmas.Bool.{cases_Bool}
 use Rattle.core_parts.specs.CoreValue.{CoreValue}
 use Rattle.core_parts.specs.Seat.{NeedsTurn}
 use Rattle.leon_core.proofs.TurnTargets.{NoFetch, drains_no_fetch, untried_no_fetch, no_text_no_fetch, fetch_asked, load_target_is, atomic_target_is, Front}
-use Rattle.leon_core.specs.Makes.{Makes}
+use Rattle.core_parts.specs.Makes.{Makes}
 use Rattle.lf_model.specs.Bus.Words.{words_read}
 use Rattle.lf_model.specs.Course.Arrays.{Arrays, begun}
 use Rattle.lf_model.specs.Course.Attempt.{comes_to, attempt}

@@ -8,7 +8,7 @@ use Rattle.core_laws.specs.SeenSoFar.{HasSeenSoFar}
 use Rattle.core_parts.specs.Needs.{IsLoadOf, IsAtomicOf}
 use Rattle.core_parts.specs.PortState.{Waiting}
 use Rattle.leon_core.specs.CoreOk.{waiting_of}
-use Rattle.leon_core.specs.Makes.{IsOfFront}
+use Rattle.core_parts.specs.Makes.{IsOfFront}
 use Rattle.lf_model.specs.Course.Core.{is_store, is_store_kind}
 use Rattle.lf_model.specs.Course.Outcome.{Need, drains, trap_needs, step_needs}
 use Rattle.lf_model.specs.Course.Outcome.Need.{NoTurn, RegisterStop}

@@ -1,5 +1,4 @@
 pub mod Lines
 pub mod Result
 pub mod CoreOk
-pub mod Makes
 pub mod Calls
