@@ -1,1 +1,2 @@
 pub mod FetchHit
+pub mod Begun
