@@ -1,2 +1,9 @@
 pub mod FetchHit
 pub mod Begun
+pub mod EffectEnds
+pub mod Outcomes
+pub mod TouchesLeave
+pub mod Recorded
+pub mod Retiring
+pub mod Stopping
+pub mod Needing
