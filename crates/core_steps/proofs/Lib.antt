@@ -7,3 +7,5 @@ pub mod Recorded
 pub mod Retiring
 pub mod Stopping
 pub mod Needing
+pub mod Working
+pub mod Valued
