@@ -9,3 +9,6 @@ pub mod Stopping
 pub mod Needing
 pub mod Working
 pub mod Valued
+pub mod Tried
+pub mod Fetched
+pub mod Asking

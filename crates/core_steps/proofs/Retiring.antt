@@ -43,7 +43,7 @@ use Rattle.v8_exec.specs.Touching.{retires_of}
 
 -- ---- no turn is needed
 
-open_by : (over et waits full : Bool) (out : Outcome) → step_needs over et waits full out ≡ NoTurn → over ≡ false
+pub open_by : (over et waits full : Bool) (out : Outcome) → step_needs over et waits full out ≡ NoTurn → over ≡ false
 open_by false et waits full out is = refl
 open_by true et true full out is = absurd (other is)
   where
@@ -54,7 +54,7 @@ open_by true et false full out is = absurd (other is)
     other : Turn turns.Snoop whys.Window ≡ NoTurn → ⊥
     other eq = cc
 
-none_open : (over et waits full : Bool) (out : Outcome) → over ≡ false → step_needs over et waits full out ≡ NoTurn → outcome_needs et waits full out ≡ NoTurn
+pub none_open : (over et waits full : Bool) (out : Outcome) → over ≡ false → step_needs over et waits full out ≡ NoTurn → outcome_needs et waits full out ≡ NoTurn
 none_open false et waits full out is none = none
 none_open true et waits full out is none = absurd (false≢true (sym is))
 

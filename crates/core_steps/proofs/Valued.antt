@@ -33,7 +33,7 @@ use Rattle.lf_model.specs.declared.image.Image.{Image}
 use Rattle.lf_model.specs.declared.touch.Touch.{Touch}
 use Rattle.lf_model.specs.declared.touch.Touch.TheVariants.{LookFetch, ReadCell, WriteCell, LookData, StoreData, FlushCaches}
 
-abbrev after : WorkState → List Touch → WorkState
+abbrev pub after : WorkState → List Touch → WorkState
 after s ts = fold work_touch s ts
 
 -- ---- the ports
@@ -75,28 +75,28 @@ quiet_reads (c ∷ cs) histories s =
 
 -- ---- a load that is looked up
 
-abbrev kind_looked : Parts → Access → AccessKind → RecordState → RecordState
+abbrev pub kind_looked : Parts → Access → AccessKind → RecordState → RecordState
 kind_looked parts x AccessKind.Load r = load_made x.addr x.len (parts.look x.addr x.len) r
 kind_looked parts x AccessKind.Store r = r
 kind_looked parts x AccessKind.Atomic r = r
 
-abbrev operation_looked : Parts → Option Access → RecordState → RecordState
+abbrev pub operation_looked : Parts → Option Access → RecordState → RecordState
 operation_looked parts None r = r
 operation_looked parts (Some x) r = kind_looked parts x x.kind r
 
-abbrev trap_looked : Parts → Effect → Option ℕ → RecordState → RecordState
+abbrev pub trap_looked : Parts → Effect → Option ℕ → RecordState → RecordState
 trap_looked parts e None r = operation_looked parts e.access r
 trap_looked parts e (Some tt_) r = r
 
-abbrev register_looked : Parts → Effect → Option ℕ → RecordState → RecordState
+abbrev pub register_looked : Parts → Effect → Option ℕ → RecordState → RecordState
 register_looked parts e None r = trap_looked parts e e.trap r
 register_looked parts e (Some cell) r = r
 
-abbrev fetched_looked : Parts → State → Effect → Arrays → LookUp → RecordState → RecordState
+abbrev pub fetched_looked : Parts → State → Effect → Arrays → LookUp → RecordState → RecordState
 fetched_looked parts st e a (Miss why) r = r
 fetched_looked parts st e a (Hit slot) r = register_looked parts e (read_cells (cells_of st.ctl.cwp e.reads) a.cells).bad r
 
-abbrev attempt_looked : Parts → Image → State → Effect → Arrays → RecordState → RecordState
+abbrev pub attempt_looked : Parts → Image → State → Effect → Arrays → RecordState → RecordState
 attempt_looked parts image st e a r = if is_text_word image.text st.ctl.pc then fetched_looked parts st e a (look st.ctl.pc 4 a.fetch_cache).answer r else r
 
 kind_leaves : (x : Access) (kind : AccessKind) (s : WorkState) → (after s (access_looks x kind)).made ≡ kind_looked (work_answers s) x kind s.made
@@ -128,7 +128,7 @@ fetched_leave : (st : State) (e : Effect) (a : Arrays) (answer : LookUp) (s : Wo
 fetched_leave st e a (Miss why) s = refl
 fetched_leave st e a (Hit slot) s = cells_leave e (cells_of st.ctl.cwp e.reads) a s
 
-attempt_leaves : (image : Image) (st : State) (e : Effect) (a : Arrays) (s : WorkState) → (after s (attempt_touches image st e a)).made ≡ attempt_looked (work_answers s) image st e a s.made
+pub attempt_leaves : (image : Image) (st : State) (e : Effect) (a : Arrays) (s : WorkState) → (after s (attempt_touches image st e a)).made ≡ attempt_looked (work_answers s) image st e a s.made
 attempt_leaves image st e a s = by (is_text_word image.text st.ctl.pc)
   where
     by : (is_text : Bool) → (after s (if is_text then LookFetch st.ctl.pc ∷ fetched_touches st e a (look st.ctl.pc 4 a.fetch_cache).answer else [])).made
@@ -150,7 +150,7 @@ barrier_leaves (Some why) s = by (same_why why Flush)
     by true = refl
     by false = refl
 
-abbrev stored_by : Option Access → RecordState → RecordState
+abbrev pub stored_by : Option Access → RecordState → RecordState
 stored_by None r = r
 stored_by (Some x) r = if is_store_kind (operation_kind x.kind) then store_made x.addr x.len x.put r else r
 
@@ -162,7 +162,7 @@ store_leaves (Some x) s = by (is_store_kind (operation_kind x.kind))
     by true = refl
     by false = refl
 
-retire_leaves : (e : Effect) (s : WorkState) → (after s (retire_touches e)).made ≡ stored_by e.access s.made
+pub retire_leaves : (e : Effect) (s : WorkState) → (after s (retire_touches e)).made ≡ stored_by e.access s.made
 retire_leaves e s =
     let stored = after s (access_touches e.access) in
     ap (λ (t : WorkState). t.made) (fold-append work_touch s (access_touches e.access) (barrier_touches e.barrier ++ write_touches e.writes))
@@ -172,7 +172,7 @@ retire_leaves e s =
 
 -- ---- the record by what the instruction came to
 
-abbrev out_looked : Parts → Option Access → Outcome → RecordState → RecordState
+abbrev pub out_looked : Parts → Option Access → Outcome → RecordState → RecordState
 out_looked parts access (LoadHit slot) r = operation_looked parts access r
 out_looked parts access NotTried r = r
 out_looked parts access NoText r = r
@@ -222,7 +222,7 @@ module _ (s : PortState) (r : RecordState) where
         let read = read_cells (cells_of st.ctl.cwp e.reads) b.cells in
         ap (λ hs. register_looked (answers s) e (read_cells (cells_of st.ctl.cwp e.reads) hs).bad r) (sym cells) ∙ register_out (record b { cells = read.cells }) read.bad same
 
-    attempt_out : (image : Image) (st : State) (is_text : Bool) → is_text_word image.text st.ctl.pc ≡ is_text
+    pub attempt_out : (image : Image) (st : State) (is_text : Bool) → is_text_word image.text st.ctl.pc ≡ is_text
         → attempt_looked (answers s) image st e (arrays_in s) r ≡ out_looked (answers s) e.access (attempt image st e (arrays_in s)).outcome r
     unfolding attempt
     attempt_out image st true is =
@@ -230,7 +230,7 @@ module _ (s : PortState) (r : RecordState) where
         rw is (fetched_out st a (record a { fetch_cache = (look st.ctl.pc 4 a.fetch_cache).cache }) (look st.ctl.pc 4 a.fetch_cache).answer refl refl)
     attempt_out image st false is = rw is refl
 
-  not_hit : (et waits full : Bool) (access : Option Access) (out : Outcome) → (outcome_needs et waits full out ≡ NoTurn → ⊥) → out_looked (answers s) access out r ≡ r
+  pub not_hit : (et waits full : Bool) (access : Option Access) (out : Outcome) → (outcome_needs et waits full out ≡ NoTurn → ⊥) → out_looked (answers s) access out r ≡ r
   not_hit et waits full access (LoadHit slot) other = absurd (other refl)
   not_hit et waits full access NotTried other = refl
   not_hit et waits full access NoText other = refl
@@ -243,7 +243,7 @@ module _ (s : PortState) (r : RecordState) where
   not_hit et waits full access (Barrier why) other = refl
   not_hit et waits full access Other other = refl
 
-  no_operation : (out : Outcome) → out_looked (answers s) None out r ≡ r
+  pub no_operation : (out : Outcome) → out_looked (answers s) None out r ≡ r
   no_operation (LoadHit slot) = refl
   no_operation NotTried = refl
   no_operation NoText = refl
