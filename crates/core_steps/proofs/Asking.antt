@@ -1,7 +1,7 @@
 -- A turn that is asked for, or the drain before it, counts no instruction and is one that a bus can make.
-use Rattle.std.proofs.Common.{◌≡◌, ◌+◌, ◌≤◌, ℕ, Bool, true, false, cond, length, refl, arith}
+use Rattle.std.proofs.Common.{ℕ, Bool, true, false, cond, refl, arith}
 use Rattle.lf_model.specs.Effect.{Site}
-use Rattle.lf_model.specs.Step.{IsSound, Seen, Parts, counted, drains_first}
+use Rattle.lf_model.specs.Step.{IsSound, Seen, Parts, drains_first}
 use Rattle.lf_model.specs.declared.bus.Why.{Why}
 use Rattle.lf_model.specs.declared.control.Arch.{Arch}
 use Rattle.lf_model.specs.declared.step.Did.TheVariants.{Need}

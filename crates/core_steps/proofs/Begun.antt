@@ -1,6 +1,6 @@
 -- A core in a step that is begun, at its seat of the course: its instruction, what that comes to and what the step needs are
 -- those of the course.
-use Rattle.std.proofs.Common.{◌≡◌, ◌∙◌, ◌+◌, ◌-◌, ◌<◌, ◌≤◌, ℕ, Bool, true, false, nat_lt, nat_le, length, refl, ap, sym, arith, inl, inr}
+use Rattle.std.proofs.Common.{◌≡◌, ◌∙◌, ◌+◌, ◌-◌, ℕ, false, nat_lt, length, refl, ap, sym, arith, inl, inr}
 use Rattle.std.proofs.lemmas.Bool.{cases_lt, lt-ltb, le-ltb}
 use Rattle.core_parts.specs.CoreValue.{CoreValue, seen_of}
 use Rattle.core_parts.specs.Moves.{tried_at}
@@ -11,13 +11,12 @@ use Rattle.core_parts.specs.declared.phase.Phase.{Phase}
 use Rattle.core_parts.specs.declared.phase.Phase.TheVariants.{Begun}
 use Rattle.core_steps.specs.Tries.{state_here, effect_here, window_over, try_here, need_here}
 use Rattle.lf_model.specs.Course.Arrays.{begun}
-use Rattle.lf_model.specs.Course.Attempt.{Attempt, attempt}
 use Rattle.lf_model.specs.Course.Core.{Ground}
-use Rattle.lf_model.specs.Course.Outcome.{Outcome, step_needs}
+use Rattle.lf_model.specs.Course.Outcome.{Outcome}
 use Rattle.lf_model.specs.Course.Progress.{Progress, next_needs}
 use Rattle.lf_model.specs.Records.OwnTurns.{next_effect}
-use Rattle.lf_model.specs.Run.{Run, effect_at_pc}
-use Rattle.lf_model.specs.Step.{state_of, run_seen}
+use Rattle.lf_model.specs.Run.{Run}
+use Rattle.lf_model.specs.Step.{run_seen}
 
 -- the core's step is begun, at this seat
 pub record Begins (g : Ground) (k : Progress) (v : CoreValue) : Type 0 where

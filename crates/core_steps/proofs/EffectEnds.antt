@@ -1,6 +1,6 @@
 -- What the instruction at PC makes besides its operation: a barrier is STBAR or FLUSH, and a trap where traps are disabled puts the
 -- core into error mode and changes nothing else; a load stores nothing.
-use Rattle.std.proofs.Common.{◌≡◌, ◌∙◌, ◌==◌, ℕ, Bool, cond, true, false, List, [], Option, Some, None, refl, sym, ap}
+use Rattle.std.proofs.Common.{◌≡◌, ◌∙◌, ◌==◌, ℕ, Bool, cond, true, false, Option, Some, None, refl, sym, ap}
 use Rattle.std.specs.Prelude.{⊤}
 use Rattle.std.proofs.lemmas.Bool.{false≢true}
 use Rattle.lf_model.specs.Alternate.{is_plain_space, control_effect}

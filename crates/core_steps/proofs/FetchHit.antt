@@ -1,6 +1,6 @@
 -- A look-up of four bytes that hits reads resident bytes: where each of these is a byte of memory, the number is memory's word.
-use Rattle.std.proofs.Common.{◌≡◌, ◌∙◌, ◌==◌, ◌&&◌, ℕ, ◌+◌, ◌-◌, ◌*◌, ◌/◌, ◌%◌, ◌^◌, ◌<◌, ◌≤◌, Bool, not, cond, true, false, List, [], ◌∷◌, Option, Some, None, length, slice_index, fold, take, drop, Contains, refl, ap, sym, subst, arith, inl, inr}
-use Rattle.std.specs.List.{list_any, list_all, range_with_len}
+use Rattle.std.proofs.Common.{◌≡◌, ◌∙◌, ◌==◌, ℕ, ◌+◌, ◌-◌, ◌*◌, ◌/◌, ◌%◌, ◌^◌, ◌<◌, ◌≤◌, Bool, not, cond, true, false, List, [], ◌∷◌, Option, Some, None, length, slice_index, fold, take, drop, Contains, refl, ap, sym, subst, arith, inl, inr}
+use Rattle.std.specs.List.{list_any, range_with_len}
 use Rattle.std.specs.Option.{option_map_or}
 use Rattle.std.proofs.lemmas.Bool.{cases_eq, cases_lt, eqb-true, eq-eqb, false≢true}
 use Rattle.std.proofs.lemmas.List.{get_or-set_same, get_or-set_other, get_or_past}
@@ -8,10 +8,10 @@ use Rattle.std.proofs.lemmas.List.FromFn.{length-range_with_len, get_or-range_wi
 use Rattle.lf_model.proofs.HitLemmas.{both, find_passes, good_words, hit_by}
 use Rattle.lf_model.proofs.LineLemmas.{or_case, among}
 use Rattle.lf_model.specs.Caches.Cache.{Cache, slot_at, with_slot, set_of, matching, raised}
-use Rattle.lf_model.specs.Caches.Look.{Checked, check_way, checked, LookUp, look_by, look}
-use Rattle.lf_model.specs.Caches.Look.LookUp.{Hit, Miss}
+use Rattle.lf_model.specs.Caches.Look.{Checked, check_way, checked, look_by, look}
+use Rattle.lf_model.specs.Caches.Look.LookUp.{Hit}
 use Rattle.lf_model.specs.Caches.Residence.{is_hit_in}
-use Rattle.lf_model.specs.Caches.Slot.{Slot, empty_slot, dropped_by_tag, holds, history_at, is_valid_word, has_struck_tag, has_wanted_words, has_struck_byte}
+use Rattle.lf_model.specs.Caches.Slot.{empty_slot, dropped_by_tag, holds, history_at, is_valid_word, has_struck_tag, has_wanted_words, has_struck_byte}
 use Rattle.lf_model.specs.Flips.{is_struck_byte}
 use Rattle.lf_model.specs.Start.{number_at}
 use Rattle.core_steps.specs.Fetches.{WholeLines}
@@ -47,9 +47,10 @@ module _ (addr i : ℕ) where
     | inl here ↦
         absurd (gone k (subst (λ (j : ℕ). has_struck_tag (slot_at j k.cache) ≡ true) (sym here) is)
         (subst (λ (j : ℕ). holds addr (slot_at i (dropped_at k j).cache) ≡ true) (sym here) held))
-    | inr other ↦
-        (get_or-set_other k.cache.slots w i (dropped_by_tag (slot_at w k.cache)) empty_slot other,
-        λ same. absurd (other (sym (eqb-true w i same))))
+    | inr other ↦ (
+      get_or-set_other k.cache.slots w i (dropped_by_tag (slot_at w k.cache)) empty_slot other,
+      λ same. absurd (other (sym (eqb-true w i same))),
+    )
   ]
 
   stays : (k : Checked) (ws : List ℕ) → holds addr (slot_at i (fold check_way k ws).cache) ≡ true → Stays k (fold check_way k ws) ws
@@ -149,9 +150,11 @@ module _ (addr i : ℕ) (aligned : addr % 4 ≡ 0) (c : CacheState) (hit : (look
       let range = among i (addr / 32 % c.cache.shape.sets * c.cache.shape.ways) c.cache.shape.ways hits.of_set in
       let first = addr / 32 % c.cache.shape.sets * c.cache.shape.ways in
       let below : i - first < c.cache.shape.ways = omega (arith, range.0, range.1) in
-      let of_set : Contains (set_of addr c.cache) i =
-          (i - first, subst (λ (n : ℕ). i - first < n) (sym (length-range_with_len first c.cache.shape.ways)) below,
-          get_or-range_with_len first c.cache.shape.ways (i - first) i below ∙ omega (arith, range.0)) in
+      let of_set : Contains (set_of addr c.cache) i = (
+        i - first,
+        subst (λ (n : ℕ). i - first < n) (sym (length-range_with_len first c.cache.shape.ways)) below,
+        get_or-range_with_len first c.cache.shape.ways (i - first) i below ∙ omega (arith, range.0),
+      ) in
       record {
         of_set = rw line of_set;
         held = held_at j lt ∙ hits.held;
@@ -170,7 +173,7 @@ module _ (addr i : ℕ) (aligned : addr % 4 ≡ 0) (c : CacheState) (hit : (look
       let in_set : Contains (set_of addr c.cache) i = subst (λ (a : ℕ). Contains (set_of a c.cache) i) same (resident 0 (omega arith)).of_set in
       let at = addr % 32 in
       let byte_at : (j : ℕ) → j < 4 → slice_index line (at + j) ≡ byte (addr + j) =
-          λ j lt. let place : (addr + j) % 32 ≡ at + j = omega (arith, lt, aligned) in
-          subst (λ (n : ℕ). slice_index line n ≡ byte (addr + j)) place (holds_bytes i (addr + j) (omega (arith, lt, aligned, below)) (resident j lt)) in
+      λ j lt. let place : (addr + j) % 32 ≡ at + j = omega (arith, lt, aligned) in
+      subst (λ (n : ℕ). slice_index line n ≡ byte (addr + j)) place (holds_bytes i (addr + j) (omega (arith, lt, aligned, below)) (resident j lt)) in
       number_4 line at (omega (arith, whole addr i in_set, aligned))
       ∙ rw (byte_at 0 (omega arith), byte_at 1 (omega arith), byte_at 2 (omega arith), byte_at 3 (omega arith)) (omega arith)

@@ -1,5 +1,5 @@
 -- What the calls of a fetch ensure, in their own terms, is what the course says of it.
-use Rattle.std.proofs.Common.{◌≡◌, ◌∙◌, ◌+◌, ◌%◌, ◌^◌, ◌<◌, ℕ, true, false, fold, refl, sym, ap, subst, arith}
+use Rattle.std.proofs.Common.{◌≡◌, ◌∙◌, ◌+◌, ◌%◌, ◌^◌, ◌<◌, ℕ, true, false, fold, refl}
 use Rattle.core_parts.specs.Work.{WorkState, work_touch, work_answers}
 use Rattle.core_steps.specs.Fetches.{Fetches}
 use Rattle.core_steps.specs.Works.{Works}
@@ -16,7 +16,6 @@ use Rattle.lf_model.specs.declared.bus.Why.{Why}
 use Rattle.lf_model.specs.declared.control.Arch.{Arch}
 use Rattle.lf_model.specs.declared.image.Image.{Image}
 use Rattle.lf_model.specs.declared.step.Did.{Did}
-use Rattle.lf_model.specs.declared.step.Look.{Look}
 use Rattle.lf_model.specs.declared.step.Look.TheVariants.{Hit, Miss}
 use Rattle.lf_model.specs.declared.touch.Touch.TheVariants.{LookFetch}
 use Rattle.parity_cache.specs.CacheState.{CacheState, line_at, answer_of}

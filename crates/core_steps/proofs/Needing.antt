@@ -1,26 +1,23 @@
 -- A try that needs a turn needs that of the course, aims it as the course does, and leaves the arrays as the course has them
 -- before the transfer; nothing else changes.
-use Rattle.std.proofs.Common.{◌≡◌, ◌∙◌, ◌+◌, ◌++◌, ◌||◌, ◌<◌, ℕ, Bool, true, false, List, [], ◌∷◌, Option, Some, None, length, nat_lt, nat_le, if◌then◌else◌, refl, sym, ap, arith}
+use Rattle.std.proofs.Common.{◌≡◌, ◌∙◌, ◌||◌, ℕ, Bool, true, false, List, Option, Some, None, length, nat_lt, nat_le, if◌then◌else◌, refl, sym, ap}
 use Rattle.std.proofs.lemmas.Bool.{false≢true}
-use Rattle.std.proofs.lemmas.List.{append-nil}
-use Rattle.core_parts.specs.CoreValue.{CoreValue, seen_of}
-use Rattle.core_parts.specs.Moves.{tried_at}
+use Rattle.core_parts.specs.CoreValue.{CoreValue}
 use Rattle.core_parts.specs.Needs.{kind_of, why_of, IsTurnOf}
-use Rattle.core_parts.specs.PortState.{PortState, arrays_in}
+use Rattle.core_parts.specs.PortState.{arrays_in}
 use Rattle.core_parts.specs.Seat.{NeedsTurn}
 use Rattle.core_steps.specs.Tries.{state_here, effect_here, window_over, try_here, need_here, Tries}
 use Rattle.core_steps.proofs.Begun.{Begins, run_is, arrays_are, effect_is, tried_is, needs_are}
 use Rattle.core_steps.proofs.EffectEnds.{leaves_by, EndsSo, ends_so}
 use Rattle.core_steps.proofs.Outcomes.{Says, Comes, comes}
-use Rattle.core_steps.proofs.TouchesLeave.{arrays_left, waiting_tried}
+use Rattle.core_steps.proofs.TouchesLeave.{arrays_left}
 use Rattle.lf_model.specs.Caches.Cache.{Cache}
-use Rattle.lf_model.specs.Course.Arrays.{Arrays, begun}
-use Rattle.lf_model.specs.Course.Attempt.{Attempt, comes_to, attempt}
+use Rattle.lf_model.specs.Course.Attempt.{Attempt}
 use Rattle.lf_model.specs.Course.Core.{Ground}
 use Rattle.lf_model.specs.Course.Outcome.{Outcome, Need, drains, trap_needs, outcome_needs, step_needs}
 use Rattle.lf_model.specs.Course.Outcome.Need.{NoTurn, Turn, RegisterStop}
 use Rattle.lf_model.specs.Course.Outcome.Outcome.{NotTried, NoText, FetchMiss, BadRegister, OrdinaryTrap, LoadMiss, LoadHit, Store, Atomic, Barrier, Other}
-use Rattle.lf_model.specs.Course.Progress.{Progress, next_needs}
+use Rattle.lf_model.specs.Course.Progress.{Progress}
 use Rattle.lf_model.specs.Course.Turn.{is_past_steps, leaves_instruction, turn_attempt, turn_needs}
 use Rattle.lf_model.specs.Effect.{AccessKind, Access, Effect}
 use Rattle.lf_model.specs.Flips.{Moment}
@@ -34,7 +31,6 @@ use Rattle.lf_model.specs.declared.bus.Why.TheVariants as whys
 use Rattle.lf_model.specs.declared.step.Did.TheVariants.{Retired, Halt}
 use Rattle.lf_model.specs.declared.step.Did.TheVariants.{Need as Asks}
 use Rattle.lf_model.specs.declared.step.Turn.{Turn as TurnAsked}
-use Rattle.lf_model.specs.declared.step.Turn.TheVariants as turns
 use Rattle.v8_exec.specs.CourseParts.{turn_asked, retired_or_halted, did_by}
 
 -- ---- what was asked

@@ -1,5 +1,5 @@
 -- What the outcome of a tried instruction says of the instruction and of what the caches answered.
-use Rattle.std.proofs.Common.{◌≡◌, ◌∙◌, ℕ, Bool, cond, true, false, List, [], ◌∷◌, Option, Some, None, fold, not, refl, sym, ap, if◌then◌else◌}
+use Rattle.std.proofs.Common.{◌≡◌, ◌∙◌, ℕ, Bool, cond, true, false, List, [], ◌∷◌, Option, Some, None, fold, not, refl, if◌then◌else◌}
 use Rattle.std.specs.Prelude.{⊤}
 use Rattle.lf_model.specs.Caches.Cache.{Cache, slot_at, with_slot, set_of, matching, raised}
 use Rattle.lf_model.specs.Caches.Look.{Checked, check_way, checked, LookUp, Looked, look_by, look}

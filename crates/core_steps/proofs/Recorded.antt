@@ -1,6 +1,6 @@
 -- The operation that retires with an instruction: what the record says of its completion, how many stores it makes, and that the
 -- number it read is the core's next answer.
-use Rattle.std.proofs.Common.{◌≡◌, ◌∙◌, ◌+◌, ◌-◌, ◌++◌, ℕ, Bool, true, false, List, [], ◌∷◌, Option, Some, None, length, map, filter, slice_index, refl, sym, ap, subst, arith, if◌then◌else◌}
+use Rattle.std.proofs.Common.{◌≡◌, ◌∙◌, ◌+◌, ◌-◌, ◌++◌, ℕ, Bool, true, false, List, [], ◌∷◌, Option, Some, None, length, map, filter, slice_index, refl, sym, ap, subst, arith}
 use Rattle.std.specs.Prelude.{⊤}
 use Rattle.std.proofs.lemmas.List.{append-nil, length-append, get_or-append_right}
 use Rattle.std.proofs.lemmas.List.{map-append}
@@ -11,9 +11,9 @@ use Rattle.core_parts.specs.CoreValue.{CoreValue}
 use Rattle.core_parts.specs.PortState.{answers}
 use Rattle.core_steps.specs.Tries.{op_of, way_looked, op_by, ops_by, seen_here}
 use Rattle.core_steps.proofs.Outcomes.{Says}
-use Rattle.lf_model.specs.Caches.Cache.{Cache, way_of}
+use Rattle.lf_model.specs.Caches.Cache.{Cache}
 use Rattle.lf_model.specs.Caches.Look.{LookUp, look}
-use Rattle.lf_model.specs.Caches.Look.LookUp.{Hit, Miss}
+use Rattle.lf_model.specs.Caches.Look.LookUp.{Hit}
 use Rattle.lf_model.specs.Course.Core.{is_store}
 use Rattle.lf_model.specs.Course.LocalStep.{way_hit}
 use Rattle.lf_model.specs.Course.Outcome.{Outcome, Need, drains, outcome_needs}
@@ -24,7 +24,7 @@ use Rattle.lf_model.specs.Effect.{AccessKind, Access, Effect}
 use Rattle.lf_model.specs.Execution.{answers_of}
 use Rattle.lf_model.specs.Operation.{entry_reads, reads, made}
 use Rattle.lf_model.specs.Run.{reads_of, answer_to}
-use Rattle.lf_model.specs.Step.{Parts, looked}
+use Rattle.lf_model.specs.Step.{looked}
 use Rattle.lf_model.specs.Step.{answer_of as number_read}
 use Rattle.lf_model.specs.declared.bus.OpKind.{OpKind}
 use Rattle.lf_model.specs.declared.bus.OpKind.TheVariants as kinds

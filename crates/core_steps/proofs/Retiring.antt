@@ -1,6 +1,6 @@
 -- A try whose instruction retires, or puts the core into error mode, needs no turn, and leaves what the seat of the next step
 -- needs.
-use Rattle.std.proofs.Common.{◌≡◌, ◌∙◌, ◌+◌, ◌++◌, ℕ, Bool, true, false, List, [], ◌∷◌, Option, Some, None, length, map, fold, nat_lt, nat_le, if◌then◌else◌, refl, sym, ap, arith}
+use Rattle.std.proofs.Common.{◌≡◌, ◌∙◌, ◌+◌, ◌++◌, ℕ, Bool, true, false, List, [], ◌∷◌, Option, Some, None, length, fold, nat_lt, nat_le, if◌then◌else◌, refl, sym, ap, arith}
 use Rattle.std.proofs.lemmas.Bool.{false≢true}
 use Rattle.std.proofs.lemmas.List.{append-nil, length-append}
 use Rattle.core_laws.proofs.Completions.{all_reported}
@@ -8,25 +8,23 @@ use Rattle.core_parts.specs.CoreValue.{CoreValue, seen_of}
 use Rattle.core_parts.specs.Moves.{tried_at, Retires}
 use Rattle.core_parts.specs.PortState.{PortState, answers, arrays_in}
 use Rattle.core_parts.specs.declared.phase.Phase.TheVariants.{Between, Ended}
-use Rattle.core_steps.specs.Tries.{state_here, effect_here, window_over, try_here, need_here, touches_here, ops_by, seen_here, Tries, ended}
-use Rattle.core_steps.proofs.Begun.{Begins, run_is, arrays_are, effect_is, tried_is, drained, needs_are}
+use Rattle.core_steps.specs.Tries.{state_here, effect_here, window_over, try_here, need_here, ops_by, Tries, ended}
+use Rattle.core_steps.proofs.Begun.{Begins, run_is, effect_is, tried_is, needs_are}
 use Rattle.core_steps.proofs.EffectEnds.{EndsSo, ends_so}
 use Rattle.core_steps.proofs.Outcomes.{Comes, comes}
 use Rattle.core_steps.proofs.Recorded.{RightWay, right_way, completed_is, stored_is, answer_is}
 use Rattle.core_steps.proofs.TouchesLeave.{arrays_left, waits_as, store_waiting, waiting_retired}
 use Rattle.lf_model.proofs.TouchLemmas.{retire}
-use Rattle.lf_model.specs.Course.Arrays.{Arrays}
 use Rattle.lf_model.specs.Course.Attempt.{Attempt}
 use Rattle.lf_model.specs.Course.Core.{Ground, is_store_kind}
-use Rattle.lf_model.specs.Course.LocalStep.{retired_arrays, way_hit}
-use Rattle.lf_model.specs.Course.Outcome.{Outcome, Need, outcome_needs, step_needs, drains}
+use Rattle.lf_model.specs.Course.LocalStep.{retired_arrays}
+use Rattle.lf_model.specs.Course.Outcome.{Outcome, Need, outcome_needs, step_needs}
 use Rattle.lf_model.specs.Course.Outcome.Need.{NoTurn, Turn, RegisterStop}
-use Rattle.lf_model.specs.Course.Progress.{Progress, next_needs, completed, stores_made}
+use Rattle.lf_model.specs.Course.Progress.{Progress, next_needs, stores_made}
 use Rattle.lf_model.specs.Course.Touches.{touched, retire_touches}
 use Rattle.lf_model.specs.Effect.{Access, operation_kind, Effect}
 use Rattle.lf_model.specs.Execution.{answers_of}
 use Rattle.lf_model.specs.Flips.{Moment}
-use Rattle.lf_model.specs.Operation.{made}
 use Rattle.lf_model.specs.Records.OwnTurns.{next_effect}
 use Rattle.lf_model.specs.Run.{Run, performed, answer_to, answered}
 use Rattle.lf_model.specs.State.{State}
@@ -36,7 +34,6 @@ use Rattle.lf_model.specs.declared.bus.TurnKind.TheVariants as turns
 use Rattle.lf_model.specs.declared.bus.Why.TheVariants as whys
 use Rattle.lf_model.specs.declared.step.Did.{Did}
 use Rattle.lf_model.specs.declared.step.Did.TheVariants.{Retired, Halt}
-use Rattle.lf_model.specs.declared.step.Did.TheVariants as did
 use Rattle.lf_model.specs.declared.trace.CoreEnd.TheVariants.{Halt as Halted}
 use Rattle.v8_exec.specs.CourseParts.{did_by}
 use Rattle.v8_exec.specs.Touching.{retires_of}
@@ -142,8 +139,8 @@ module _ (g : Ground) (k : Progress) (old new : CoreValue) (b : Begins g k old) 
       run_now : run_seen new.arch (seen_of new) ≡ answered g.core g.given.answers k.run (next_effect g k)
       run_now =
           let got : number_read (answers old.ports) here.access ≡ answer_to g.given.answers k.run.ops here.access =
-              sym (ap (λ l. answer_to l k.run.ops here.access) (given ∙ ap answers_of t.ops)
-              ∙ (ap (λ (r : Run). answer_to (answers_of (old.ops ++ ops_by old here.access)) r.ops here.access) (run_is g k old b) ∙ answer_is old (try_here old).arrays.data_cache (try_here old).outcome here.access right)) in
+          sym (ap (λ l. answer_to l k.run.ops here.access) (given ∙ ap answers_of t.ops)
+          ∙ (ap (λ (r : Run). answer_to (answers_of (old.ops ++ ops_by old here.access)) r.ops here.access) (run_is g k old b) ∙ answer_is old (try_here old).arrays.data_cache (try_here old).outcome here.access right)) in
           t.run ∙ (ap (λ n. performed old.arch.core n here (run_seen old.arch (seen_of old))) got
           ∙ rw (effect_is g k old b, b.core, run_is g k old b) refl)
 

@@ -1,16 +1,14 @@
 -- A try that meets a bad register cell leaves what the seat of a core that this stops needs, once the cell is named.
-use Rattle.std.proofs.Common.{◌≡◌, ◌∙◌, ◌+◌, ◌++◌, ℕ, Bool, true, false, List, [], ◌∷◌, Option, Some, None, length, filter, nat_lt, nat_le, if◌then◌else◌, refl, sym, ap, arith}
-use Rattle.std.proofs.lemmas.Bool.{false≢true}
+use Rattle.std.proofs.Common.{◌≡◌, ◌∙◌, ◌+◌, ℕ, Bool, true, false, List, ◌∷◌, Option, Some, None, length, nat_lt, nat_le, if◌then◌else◌, refl, sym, ap, arith}
 use Rattle.std.proofs.lemmas.List.{append-nil}
 use Rattle.core_parts.specs.CoreValue.{CoreValue}
 use Rattle.core_parts.specs.Moves.{tried_at, Stops}
 use Rattle.core_parts.specs.PortState.{PortState, arrays_in}
 use Rattle.core_parts.specs.declared.phase.Phase.TheVariants.{Ended}
 use Rattle.core_steps.specs.Tries.{state_here, effect_here, window_over, try_here, need_here, Tries, ended}
-use Rattle.core_steps.proofs.Begun.{Begins, run_is, effect_is, tried_is, needs_are}
+use Rattle.core_steps.proofs.Begun.{Begins, run_is, tried_is, needs_are}
 use Rattle.core_steps.proofs.TouchesLeave.{arrays_left, waiting_tried}
 use Rattle.lf_model.specs.Caches.Slot.{history_at, befalls}
-use Rattle.lf_model.specs.Course.Arrays.{Arrays}
 use Rattle.lf_model.specs.Course.Attempt.{Attempt}
 use Rattle.lf_model.specs.Course.Core.{Ground, r_register_access_error}
 use Rattle.lf_model.specs.Course.LocalStep.{named_cell}

@@ -1,9 +1,9 @@
 -- What the touches of a try leave of the arrays and of the stores that wait.
-use Rattle.std.proofs.Common.{◌≡◌, ◌∙◌, ◌++◌, ℕ, Bool, true, false, List, [], ◌∷◌, Option, Some, None, fold, map, refl, sym, ap, if◌then◌else◌}
+use Rattle.std.proofs.Common.{◌≡◌, ◌∙◌, ◌++◌, ℕ, Bool, true, false, List, [], ◌∷◌, Option, Some, None, fold, refl, sym, ap, if◌then◌else◌}
 use Rattle.std.proofs.lemmas.List.{append-nil}
 use Rattle.std.proofs.lemmas.List.Sums.{fold-append}
 use Rattle.core_laws.proofs.StepTouches.{tried}
-use Rattle.core_laws.specs.StepTouches.{access_looks, operation_looks, trap_looks, register_looks, cell_touches, fetched_touches, attempt_touches}
+use Rattle.core_laws.specs.StepTouches.{access_looks, operation_looks, trap_looks, register_looks, fetched_touches, attempt_touches}
 use Rattle.core_parts.proofs.Touching.{arrays_after}
 use Rattle.core_parts.specs.CoreValue.{CoreValue}
 use Rattle.core_parts.specs.PortState.{PortState, Waiting, arrays_in, touch}
@@ -13,7 +13,7 @@ use Rattle.lf_model.specs.Caches.Look.LookUp.{Hit, Miss}
 use Rattle.lf_model.specs.Caches.Slot.{history_at, befalls}
 use Rattle.lf_model.specs.Course.Arrays.{Arrays, cells_of, read_cells, read_back}
 use Rattle.lf_model.specs.Course.Core.{is_store_kind}
-use Rattle.lf_model.specs.Course.Touches.{touched, unless_bad, read_touches, store_touches, access_touches, barrier_touches, write_touches, retire_touches}
+use Rattle.lf_model.specs.Course.Touches.{touched, unless_bad, read_touches, access_touches, barrier_touches, write_touches, retire_touches}
 use Rattle.lf_model.specs.Effect.{AccessKind, Access, operation_kind, Effect}
 use Rattle.lf_model.specs.Flips.{Moment, is_bad_word}
 use Rattle.lf_model.specs.Names.{same_why}

@@ -1,34 +1,30 @@
 -- What a try makes of all that an instruction works on is what users of the core see of it.
-use Rattle.std.proofs.Common.{◌≡◌, ◌∙◌, ◌+◌, ◌++◌, ℕ, Bool, true, false, cond, List, [], ◌∷◌, Option, Some, None, fold, map, nat_lt, nat_le, length, if◌then◌else◌, refl, sym, ap, subst, arith}
-use Rattle.std.proofs.lemmas.Bool.{false≢true}
+use Rattle.std.proofs.Common.{◌≡◌, ◌∙◌, ◌++◌, ℕ, Bool, true, false, List, [], Option, Some, None, fold, map, nat_lt, nat_le, length, if◌then◌else◌, refl, sym, ap}
 use Rattle.std.proofs.lemmas.List.{append-nil}
 use Rattle.std.proofs.lemmas.List.Sums.{fold-append}
 use Rattle.core_laws.specs.StepTouches.{attempt_touches}
-use Rattle.core_parts.specs.CoreValue.{CoreValue, seen_of}
-use Rattle.core_parts.specs.PortState.{PortState, arrays_in, touch, answers}
-use Rattle.core_parts.specs.RecordState.{RecordState, op_by}
-use Rattle.core_parts.specs.Work.{WorkState, work_touch, work_answers}
+use Rattle.core_parts.specs.CoreValue.{CoreValue}
+use Rattle.core_parts.specs.PortState.{arrays_in, answers}
+use Rattle.core_parts.specs.RecordState.{RecordState}
+use Rattle.core_parts.specs.Work.{WorkState, work_touch}
 use Rattle.core_parts.specs.declared.phase.Phase.{Phase}
-use Rattle.core_steps.specs.Tries.{effect_here, window_over, ops_by, ops_here, seen_here, Tries}
-use Rattle.core_steps.specs.Works.{effect_at, try_at, need_at, touches_at, Works}
+use Rattle.core_steps.specs.Tries.{effect_here, ops_by, ops_here, Tries}
+use Rattle.core_steps.specs.Works.{try_at, need_at, touches_at, Works}
 use Rattle.core_steps.proofs.EffectEnds.{StoresBy, EndsSo, ends_so}
 use Rattle.core_steps.proofs.Outcomes.{Says, Comes, comes}
-use Rattle.core_steps.proofs.Retiring.{open_by, none_open, HaltsBy, retired_none, halt_none}
-use Rattle.core_steps.proofs.Stopping.{StopsBy, stop_need}
-use Rattle.core_steps.proofs.Needing.{AsksBy, asks_by}
+use Rattle.core_steps.proofs.Retiring.{open_by, none_open, retired_none, halt_none}
+use Rattle.core_steps.proofs.Stopping.{stop_need}
+use Rattle.core_steps.proofs.Needing.{asks_by}
 use Rattle.core_steps.proofs.Valued.{out_looked, stored_by, ports_after, setup_after, attempt_leaves, retire_leaves, attempt_out, not_hit, no_operation}
-use Rattle.lf_model.specs.Caches.Look.{LookUp, look}
+use Rattle.lf_model.specs.Caches.Look.{look}
 use Rattle.lf_model.specs.Caches.Look.LookUp.{Hit}
-use Rattle.lf_model.specs.Course.Attempt.{Attempt}
-use Rattle.lf_model.specs.Course.Outcome.{Outcome, Need, drains, outcome_needs, step_needs}
+use Rattle.lf_model.specs.Course.Outcome.{Outcome, Need, drains, outcome_needs}
 use Rattle.lf_model.specs.Course.Outcome.Need.{NoTurn, Turn, RegisterStop}
 use Rattle.lf_model.specs.Course.Outcome.Outcome.{NotTried, NoText, FetchMiss, BadRegister, OrdinaryTrap, LoadMiss, LoadHit, Store, Atomic, Barrier, Other}
-use Rattle.lf_model.specs.Course.Touches.{retire_touches}
 use Rattle.lf_model.specs.Effect.{AccessKind, Access, Effect}
 use Rattle.lf_model.specs.Operation.{made}
 use Rattle.lf_model.specs.Start.{is_text_word}
-use Rattle.lf_model.specs.State.{State}
-use Rattle.lf_model.specs.Step.{Seen, state_of, looked}
+use Rattle.lf_model.specs.Step.{Seen, state_of}
 use Rattle.lf_model.specs.declared.bus.TurnKind.{TurnKind}
 use Rattle.lf_model.specs.declared.bus.TurnKind.TheVariants as kinds
 use Rattle.lf_model.specs.declared.bus.Why.{Why}
@@ -185,6 +181,7 @@ module _ (did : Did) (old new : Arch) (before after : Seen) (was now : WorkState
           by : (et : Bool) → Turned ≡ (if et then Retired else Halt m) → ⊥
           by true same = cc
           by false same = cc
+
       never : (need : Need) → Turned ≡ did_by (state_of old before) e (try_at over old before was).arrays.cells need → ⊥
       never NoTurn eq = trap_never e.trap eq
       never (Turn kind why) eq = cc

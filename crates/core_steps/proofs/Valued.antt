@@ -1,21 +1,17 @@
 -- A try over all that an instruction works on, as the users of the core see it: the ports after the touches, and the operation that
 -- retires.
-use Rattle.std.proofs.Common.{◌≡◌, ◌∙◌, ◌+◌, ◌++◌, ℕ, Bool, true, false, cond, List, [], ◌∷◌, Option, Some, None, fold, map, nat_lt, nat_le, length, if◌then◌else◌, refl, sym, ap, subst, arith}
-use Rattle.std.specs.Prelude.{⊤}
-use Rattle.std.proofs.lemmas.List.{append-nil, map-append}
+use Rattle.std.proofs.Common.{◌≡◌, ◌∙◌, ◌++◌, ℕ, Bool, true, false, List, [], ◌∷◌, Option, Some, None, fold, if◌then◌else◌, refl, sym, ap}
 use Rattle.std.proofs.lemmas.List.Sums.{fold-append}
 use Rattle.core_laws.specs.StepTouches.{access_looks, operation_looks, trap_looks, register_looks, cell_touches, fetched_touches, attempt_touches}
 use Rattle.core_parts.proofs.Touching.{answers_read}
-use Rattle.core_parts.specs.CoreValue.{CoreValue, seen_of}
 use Rattle.core_parts.specs.PortState.{PortState, arrays_in, touch, answers}
-use Rattle.core_parts.specs.RecordState.{RecordState, op_by}
-use Rattle.core_parts.specs.Work.{WorkState, with_operation, load_made, store_made, made_after, work_touch, work_answers}
-use Rattle.core_parts.specs.declared.record.Operation.{Operation}
+use Rattle.core_parts.specs.RecordState.{RecordState}
+use Rattle.core_parts.specs.Work.{WorkState, load_made, store_made, work_touch, work_answers}
 use Rattle.lf_model.specs.Caches.Look.{LookUp, look}
 use Rattle.lf_model.specs.Caches.Look.LookUp.{Hit, Miss}
 use Rattle.lf_model.specs.Caches.Slot.{history_at, befalls}
 use Rattle.lf_model.specs.Course.Arrays.{Arrays, cells_of, read_cells, read_back}
-use Rattle.lf_model.specs.Course.Attempt.{Attempt, load_outcome, access_attempt, barrier_attempt, operation_attempt, trap_attempt, register_attempt, fetch_attempt, attempt}
+use Rattle.lf_model.specs.Course.Attempt.{load_outcome, access_attempt, barrier_attempt, operation_attempt, trap_attempt, register_attempt, fetch_attempt, attempt}
 use Rattle.lf_model.specs.Course.Core.{is_store_kind}
 use Rattle.lf_model.specs.Course.Outcome.{Outcome, outcome_needs}
 use Rattle.lf_model.specs.Course.Outcome.Need.{NoTurn}
@@ -31,7 +27,7 @@ use Rattle.lf_model.specs.declared.bus.Why.{Why}
 use Rattle.lf_model.specs.declared.bus.Why.TheVariants.{Flush}
 use Rattle.lf_model.specs.declared.image.Image.{Image}
 use Rattle.lf_model.specs.declared.touch.Touch.{Touch}
-use Rattle.lf_model.specs.declared.touch.Touch.TheVariants.{LookFetch, ReadCell, WriteCell, LookData, StoreData, FlushCaches}
+use Rattle.lf_model.specs.declared.touch.Touch.TheVariants.{LookFetch, ReadCell, WriteCell, StoreData, FlushCaches}
 
 abbrev pub after : WorkState → List Touch → WorkState
 after s ts = fold work_touch s ts

@@ -1,22 +1,20 @@
 -- What the calls of a try ensure, case by case, is what the course says of it.
-use Rattle.std.proofs.Common.{◌≡◌, ◌∙◌, ◌+◌, ◌++◌, ◌-◌, ◌%◌, ℕ, Bool, true, false, cond, List, [], ◌∷◌, Option, Some, None, is_some, fold, nat_lt, nat_le, length, if◌then◌else◌, refl, sym, ap, arith}
+use Rattle.std.proofs.Common.{◌≡◌, ◌∙◌, ◌+◌, ◌++◌, ◌-◌, ◌%◌, ℕ, Bool, true, false, cond, List, [], Option, Some, None, is_some, fold, nat_lt, length, refl, sym, ap, arith}
 use Rattle.std.specs.Option.{option_map}
 use Rattle.std.proofs.lemmas.List.{append_assoc}
-use Rattle.core_laws.specs.StepTouches.{access_looks, operation_looks, trap_looks, register_looks, attempt_touches}
-use Rattle.core_parts.specs.PortState.{PortState, arrays_in}
+use Rattle.core_laws.specs.StepTouches.{access_looks, operation_looks, trap_looks, register_looks}
+use Rattle.core_parts.specs.PortState.{arrays_in}
 use Rattle.core_parts.specs.Work.{WorkState, work_touch, work_answers}
-use Rattle.core_steps.specs.Works.{effect_at, try_at, need_at, touches_at, Works}
-use Rattle.lf_model.specs.Caches.Cache.{Cache}
-use Rattle.lf_model.specs.Caches.Look.{LookUp, Looked, look}
+use Rattle.core_steps.specs.Works.{effect_at, need_at, Works}
+use Rattle.lf_model.specs.Caches.Look.{LookUp, look}
 use Rattle.lf_model.specs.Caches.Look.LookUp.{Hit, Miss}
-use Rattle.lf_model.specs.Caches.Slot.{line_of}
 use Rattle.lf_model.specs.Course.Arrays.{Arrays, cells_of, read_cells}
 use Rattle.lf_model.specs.Course.Attempt.{Attempt, comes_to, attempt}
-use Rattle.lf_model.specs.Course.Outcome.{Outcome, Need, drains, trap_needs, outcome_needs}
+use Rattle.lf_model.specs.Course.Outcome.{Need, drains, trap_needs}
 use Rattle.lf_model.specs.Course.Outcome.Need.{NoTurn, Turn}
 use Rattle.lf_model.specs.Course.Outcome.Outcome.{FetchMiss, NoText}
 use Rattle.lf_model.specs.Course.Touches.{unless_bad, read_touches}
-use Rattle.lf_model.specs.Effect.{Site, AccessKind, Access, Effect}
+use Rattle.lf_model.specs.Effect.{AccessKind, Access, Effect}
 use Rattle.lf_model.specs.Effects.{effect}
 use Rattle.lf_model.specs.Flips.{Moment}
 use Rattle.lf_model.specs.Instructions.{instruction_of}
@@ -29,7 +27,6 @@ use Rattle.lf_model.specs.declared.bus.TurnKind.TheVariants as kinds
 use Rattle.lf_model.specs.declared.bus.Why.{Why}
 use Rattle.lf_model.specs.declared.bus.Why.TheVariants as whys
 use Rattle.lf_model.specs.declared.control.Arch.{Arch}
-use Rattle.lf_model.specs.declared.setup.Setup.{Setup}
 use Rattle.lf_model.specs.declared.step.Did.{Did}
 use Rattle.lf_model.specs.declared.step.Did.TheVariants as answers
 use Rattle.lf_model.specs.declared.step.RegBad.{RegBad}
@@ -42,7 +39,7 @@ use Rattle.v8_exec.proofs.CourseAnswers.{answered}
 use Rattle.v8_exec.proofs.CourseReads.{tried, cell_of, reads_are, finds_bad}
 use Rattle.v8_exec.proofs.EffectShape.{IsApart, effect_apart}
 use Rattle.v8_exec.specs.CourseParts.{AgreesWith, AnswersBy, did_by}
-use Rattle.v8_exec.specs.Touching.{reads_of, looks_by, looks_of, retires_of, touches_of}
+use Rattle.v8_exec.specs.Touching.{looks_by, looks_of, retires_of, touches_of}
 
 -- ---- what the parts answer is by their arrays
 

@@ -1,5 +1,5 @@
 -- A core's try of the instruction at PC, over all that an instruction works on.
-use Rattle.std.specs.Prelude.{ℕ, ◌≡◌, ◌+◌, ◌++◌, nat_lt, nat_le, Bool, List, [], fold, length, if◌then◌else◌}
+use Rattle.std.specs.Prelude.{◌≡◌, ◌+◌, ◌++◌, nat_lt, nat_le, Bool, List, [], fold, length, if◌then◌else◌}
 use Rattle.core_laws.specs.StepTouches.{attempt_touches}
 use Rattle.core_parts.specs.PortState.{arrays_in}
 use Rattle.core_parts.specs.Work.{WorkState, work_touch, work_answers}
