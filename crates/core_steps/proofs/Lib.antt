@@ -1,0 +1,14 @@
+pub mod FetchHit
+pub mod Begun
+pub mod EffectEnds
+pub mod Outcomes
+pub mod TouchesLeave
+pub mod Recorded
+pub mod Retiring
+pub mod Stopping
+pub mod Needing
+pub mod Working
+pub mod Valued
+pub mod Tried
+pub mod Fetched
+pub mod Asking
