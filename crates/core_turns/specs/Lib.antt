@@ -1,0 +1,2 @@
+pub mod AfterTurn
+pub mod BeforeTurn
