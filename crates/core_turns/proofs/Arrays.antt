@@ -10,7 +10,7 @@ use Rattle.lf_model.specs.Course.Arrays.{write_cells}
 use Rattle.lf_model.specs.Course.Core.{Ground}
 use Rattle.lf_model.specs.Course.Progress.{Progress}
 use Rattle.lf_model.specs.Course.Syndromes.{has_address, enters_log}
-use Rattle.lf_model.specs.Course.Turn.{caught_up}
+use Rattle.lf_model.specs.Course.Turn.{caught_up, arrays_before}
 use Rattle.lf_model.specs.Course.Turned.{own_turn, fetch_filled, transferred}
 use Rattle.lf_model.specs.Effect.{Effect, cell_written}
 use Rattle.lf_model.specs.Records.OwnTurns.{next_effect}
@@ -37,6 +37,10 @@ module _ (g : Ground) (seat : Progress) (v : CoreValue) (log : List Entry) (t : 
       (omega (arith, h.within, length-map (drop v.log_seen log) address_of, length-drop v.log_seen log))
 
   -- ---- its arrays
+
+  -- as the transfer begins
+  pub arrays_ready : arrays_before g t.why (next_effect g seat) at_turn ≡ arrays_in ready.ports
+  arrays_ready = rw h.is_seat.unseen (ap (caught_up (unseen_in log v)) (sym h.tried))
 
   pub arrays_stay : has_address t ≡ false → arrays_in ready.ports ≡ (own_turn g t at_turn).arrays
   unfolding own_turn

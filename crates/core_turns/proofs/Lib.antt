@@ -1,3 +1,5 @@
 pub mod Arrays
 pub mod Leaves
 pub mod Exchange
+pub mod RightTurn
+pub mod Answers

@@ -1,2 +1,4 @@
 pub mod AfterTurn
 pub mod BeforeTurn
+pub mod AskedTurn
+pub mod MakesTurn
