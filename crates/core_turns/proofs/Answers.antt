@@ -2,22 +2,24 @@
 use Rattle.std.proofs.Common.{◌≡◌, ◌∙◌, ◌+◌, ◌*◌, ◌≤◌, ◌%◌, ◌/◌, ◌&&◌, ◌||◌, ℕ, true, false, Bool, not, nat_lt, IsTrue, Result, Ok, Err, List, [], ◌∷◌, Option, Some, None, length, map, find, refl, ap, sym, arith, if◌then◌else◌}
 use Rattle.std.proofs.lemmas.List.{length-map}
 use Rattle.std.specs.List.{list_any}
-use Rattle.std.specs.Prelude.{slice_index, slice_index_or, is_ok}
+use Rattle.std.specs.Prelude.{slice_index, is_ok}
 use Rattle.ahb_bus.proofs.AnsweredLemmas.{syndrome_in, syndromes_read}
 use Rattle.ahb_bus.proofs.ShownLemmas.{line_syndromes, line_bad, store_shown, store_bad, atomic_shown, atomic_bad}
 use Rattle.ahb_bus.specs.BusOk.{BusOk}
 use Rattle.ahb_bus.specs.BusState.{BusState, memory_of, asked_by, answered}
 use Rattle.ahb_bus.specs.declared.record.Who.{Who}
 use Rattle.bus_memory.specs.MemoryState.{words_met, line_shown, reads_line, store_answer, read_answer}
+use Rattle.core_parts.specs.Fills.{is_bad_in, lowest_bad, IsAnswered}
+use Rattle.core_parts.specs.Fills.{bad_word as word_in}
 use Rattle.core_parts.specs.Needs.{kind_of, IsLoadOf, IsTurnOf}
 use Rattle.lf_model.specs.Bus.Words.{word_of}
-use Rattle.lf_model.specs.Caches.Slot.{wanted_words}
+use Rattle.lf_model.specs.Caches.Slot.{line_of, wanted_words}
 use Rattle.lf_model.specs.Course.Syndromes.{is_bad_syndrome, syndromes_of, met_bad, has_address, enters_log}
 use Rattle.lf_model.specs.Course.Turned.{valid_by, load_wants, turn_wants, bad_wanted}
 use Rattle.lf_model.specs.Effect.{Access, Effect}
 use Rattle.lf_model.specs.Records.BusMemory.{words_asked}
 use Rattle.lf_model.specs.TransferLines.{makes_entry}
-use Rattle.lf_model.specs.Start.{is_in_ram}
+use Rattle.lf_model.specs.Start.{is_text_word, is_in_ram}
 use Rattle.lf_model.specs.declared.bus.Bad.{Bad}
 use Rattle.lf_model.specs.declared.bus.Line.{Line}
 use Rattle.lf_model.specs.declared.bus.Pending.{Pending}
@@ -26,10 +28,12 @@ use Rattle.lf_model.specs.declared.bus.TurnKind.{TurnKind}
 use Rattle.lf_model.specs.declared.bus.TurnKind.TheVariants as kinds
 use Rattle.lf_model.specs.declared.bus.Why.{Why}
 use Rattle.lf_model.specs.declared.bus.Why.TheVariants as whys
+use Rattle.lf_model.specs.declared.image.Image.{Image}
 use Rattle.lf_model.specs.declared.step.Did.{Did}
 use Rattle.lf_model.specs.declared.step.Turn.{Turn}
 use Rattle.lf_model.specs.declared.step.Turn.TheVariants.{Fetch, Load, Atomic, Drain, Snoop}
 use Rattle.ram_words.specs.declared.answer.Got.{Got}
+use Rattle.core_turns.specs.AfterTurn.{text_valid, data_valid}
 use Rattle.core_turns.specs.AskedTurn.{wants, made_good, bad_word, comes_to, turn_answer}
 
 -- ---- the words that a turn wants are those of the definitions
@@ -71,6 +75,9 @@ pub met : (pc : ℕ) (turn : Turn) (t : Transfer) (bad : Bad) → turn_answer pc
     → (j : ℕ) × ((find (met_bad t) (wants pc turn) ≡ Some j) × (bad_word t j ≡ bad))
 met pc turn t bad is = bad_by turn t (find (met_bad t) (wants pc turn)) bad is
 
+same_bad : (bad : Bad) (addr syn : ℕ) → bad.addr ≡ addr → bad.syn ≡ syn → bad ≡ record { addr = addr; syn = syn }
+same_bad bad addr syn at is = rw (sym at, sym is) refl
+
 -- ---- a fill
 
 find_same : (f h : ℕ → Bool) → ((j : ℕ) → f j ≡ h j) → (js : List ℕ) → find f js ≡ find h js
@@ -80,9 +87,14 @@ find_same f h same (j ∷ js) = rw (same j, find_same f h same js) refl
 pub valid_same : (f h : ℕ → Bool) → ((j : ℕ) → f j ≡ h j) → valid_by f ≡ valid_by h
 valid_same f h same = rw (same 0, same 1, same 2, same 3, same 4, same 5, same 6, same 7) refl
 
--- word j of a line is bad
-abbrev pub is_bad_in : Line → ℕ → Bool
-is_bad_in line j = slice_index_or line.bad j false
+module _ (line : Line) (addr : ℕ) where
+  none_bad : {U : Type 0} (found : Option ℕ) (u : U) → IsAnswered line addr found (Ok u) → found ≡ None
+  none_bad None u is = refl
+  none_bad (Some j) u is = absurd is
+
+  one_bad : (U : Type 0) (found : Option ℕ) (bad : Bad) → IsAnswered {U = U} line addr found (Err bad) → (j : ℕ) × ((found ≡ Some j) × (bad ≡ word_in line addr j))
+  one_bad U None bad is = absurd is
+  one_bad U (Some j) bad is = (j, (refl, is))
 
 module _ (bus : BusState) (ok : BusOk bus) (asked : Transfer) (reads : reads_line asked.kind ≡ true) (line : Line) (shown : line ≡ line_shown (memory_of bus) asked.addr) where
   abbrev t : Transfer
@@ -97,6 +109,30 @@ module _ (bus : BusState) (ok : BusOk bus) (asked : Transfer) (reads : reads_lin
   -- the first bad one of some words of the line
   pub found_in_line : (js : List ℕ) → find (is_bad_in line) js ≡ find (met_bad t) js
   found_in_line js = find_same (is_bad_in line) (met_bad t) bad_in_line js
+
+  pub data_bits : valid_by (λ j. not (is_bad_in line j)) ≡ data_valid t
+  data_bits = valid_same (λ j. not (is_bad_in line j)) (λ j. not (met_bad t j)) (λ j. ap not (bad_in_line j))
+
+  pub text_bits : (image : Image) → valid_by (λ j. not (is_bad_in line j) && is_text_word image.text (asked.addr + 4 * j)) ≡ text_valid image t
+  text_bits image =
+      valid_same (λ j. not (is_bad_in line j) && is_text_word image.text (asked.addr + 4 * j)) (λ j. not (met_bad t j) && is_text_word image.text (asked.addr + 4 * j))
+      (λ j. ap (λ b. not b && is_text_word image.text (asked.addr + 4 * j)) (bad_in_line j))
+
+  -- a fill whose turn wants the words of an access in this line
+  module _ (turn : Turn) (pc addr len : ℕ) (wanted_ : wants pc turn ≡ wanted_words addr len) where
+    same_found : lowest_bad line addr len ≡ find (met_bad t) (wants pc turn)
+    same_found = found_in_line (wanted_words addr len) ∙ ap (find (met_bad t)) (sym wanted_)
+
+    pub fill_good : {U : Type 0} (u : U) → IsAnswered line addr (lowest_bad line addr len) (Ok u) → Ok (made_good turn) ≡ turn_answer pc turn t
+    fill_good u is = ap (comes_to turn t) (sym (none_bad line addr (lowest_bad line addr len) u is) ∙ same_found)
+
+    pub fill_met : (U : Type 0) (bad : Bad) → asked.addr ≡ line_of addr → IsAnswered {U = U} line addr (lowest_bad line addr len) (Err bad) → Err bad ≡ turn_answer pc turn t
+    fill_met U bad at is =
+        let word = one_bad line addr U (lowest_bad line addr len) bad is in
+        ap (λ b. Err b) (word.1.1 ∙ same_word word.0) ∙ ap (comes_to turn t) (sym word.1.0 ∙ same_found)
+      where
+        same_word : (j : ℕ) → word_in line addr j ≡ bad_word t j
+        same_word j = same_bad (word_in line addr j) (word_of t.addr + 4 * j) (slice_index (syndromes_of t) j) (omega (arith, at)) (syndrome_in_line j)
 
 -- ---- a store, or an atomic
 
@@ -136,9 +172,6 @@ by_entry : {T : Type 0} (turn : Turn) (t : Transfer) (r : Result T Bad) → is_o
     → did_by turn r ≡ (if enters_log t then Ok (made_good turn) else Err (bad_word t 0))
 by_entry turn t (Ok got) is names = rw (sym is) refl
 by_entry turn t (Err bad) is names = rw (sym is) (ap (λ b. Err b) (names bad refl))
-
-same_bad : (bad : Bad) (addr syn : ℕ) → bad.addr ≡ addr → bad.syn ≡ syn → bad ≡ record { addr = addr; syn = syn }
-same_bad bad addr syn at is = rw (sym at, sym is) refl
 
 named : (u : Transfer) (bad : Bad) → bad.addr ≡ word_of u.addr → bad.syn ≡ slice_index (syndromes_of u) 0 → bad ≡ bad_word u 0
 named u bad at syn = same_bad bad (word_of u.addr + 4 * 0) (slice_index (syndromes_of u) 0) (at ∙ omega arith) syn

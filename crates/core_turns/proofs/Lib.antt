@@ -3,3 +3,6 @@ pub mod Leaves
 pub mod Exchange
 pub mod RightTurn
 pub mod Answers
+pub mod Needed
+pub mod DrainLemmas
+pub mod RetiredAtomic

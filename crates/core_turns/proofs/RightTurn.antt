@@ -31,7 +31,7 @@ use Rattle.lf_model.specs.declared.step.Turn.{Turn}
 use Rattle.lf_model.specs.declared.step.Turn.TheVariants.{Fetch, Load, Atomic, Drain, Snoop}
 use Rattle.core_turns.proofs.Arrays.{arrays_ready}
 use Rattle.core_turns.specs.AfterTurn.{snooping}
-use Rattle.core_turns.specs.AskedTurn.{asked_drain, transfer_of}
+use Rattle.core_turns.specs.AskedTurn.{who_of, asked_drain, transfer_of}
 use Rattle.core_turns.specs.BeforeTurn.{seat_at_turn, BeforeTurn}
 
 -- ---- a fetch is needed only where PC is a text word
@@ -161,19 +161,19 @@ module _ (g : Ground) (seat : Progress) (v : CoreValue) (log : List Entry) (bus 
 
   -- the drain of this store
   drain_of : Why → Waiting → Transfer
-  drain_of why p = answered bus (asked_drain ready bus why (Some p))
+  drain_of why p = answered bus (asked_drain bus (who_of ready) why (p ∷ []))
 
   right_drain_of : (why : Why) (p : Waiting) → NeedsTurn g seat (Drain why) (arrays_in v.ports) → option_map waiting_of (slice_get g.given.stores seat.drained) ≡ Some p
       → has_address (drain_of why p) ≡ true → IsRightTurn g (drain_of why p) here
   unfolding drain_of
   right_drain_of why p needs next placed = record {
     needed = needs.needed;
-    placed = rw ((store_target_is (slice_get g.given.stores seat.drained) p next).1) (placed_by (answered bus (asked_drain ready bus why (Some p))) p.addr 0 p.len refl refl refl (rw placed refl));
+    placed = rw ((store_target_is (slice_get g.given.stores seat.drained) p next).1) (placed_by (answered bus (asked_drain bus (who_of ready) why (p ∷ []))) p.addr 0 p.len refl refl refl (rw placed refl));
   }
 
-  pub right_drain : (why : Why) (p : Waiting) → NeedsTurn g seat (Drain why) (arrays_in v.ports) → slice_get v.ports.waiting 0 ≡ Some p
+  pub right_drain : (why : Why) (p : Waiting) (later : List Waiting) → NeedsTurn g seat (Drain why) (arrays_in v.ports) → v.ports.waiting ≡ p ∷ later
       → option_map waiting_of (slice_get g.given.stores seat.drained) ≡ Some p → has_address (made (Drain why)) ≡ true → IsRightTurn g (made (Drain why)) here
   unfolding drain_of
-  right_drain why p needs first next placed =
-      let is : made (Drain why) ≡ drain_of why p = ap (λ found. answered bus (asked_drain ready bus why found)) first in
+  right_drain why p later needs first next placed =
+      let is : made (Drain why) ≡ drain_of why p = ap (λ stores. answered bus (asked_drain bus (who_of ready) why stores)) first in
       subst (λ t. IsRightTurn g t here) (sym is) (right_drain_of why p needs next (ap has_address (sym is) ∙ placed))

@@ -15,6 +15,7 @@ use Rattle.lf_model.specs.Step.{state_of}
 use Rattle.lf_model.specs.declared.bus.Entry.{Entry}
 use Rattle.lf_model.specs.declared.bus.OpKind.TheVariants as ops
 use Rattle.lf_model.specs.declared.bus.Transfer.{Transfer}
+use Rattle.lf_model.specs.declared.image.Image.{Image}
 use Rattle.lf_model.specs.declared.step.Turn.{Turn}
 use Rattle.lf_model.specs.declared.step.Turn.TheVariants.{Fetch, Load, Atomic, Drain, Snoop}
 use Rattle.lf_model.specs.declared.trace.Op.{Op}
@@ -37,18 +38,26 @@ snooping log v = record v {
 
 -- ---- fills
 
--- the line that memory read goes into the fetch cache. A word is valid where it was read clean or corrected, and is text.
+-- the valid bits of a line in the fetch cache: of the words that memory read clean or corrected, and that are text
+abbrev pub text_valid : Image → Transfer → ℕ
+text_valid image t = valid_by (λ j. not (met_bad t j) && is_text_word image.text (t.addr + 4 * j))
+
+-- and in the data cache: of those that it read clean or corrected
+abbrev pub data_valid : Transfer → ℕ
+data_valid t = valid_by (λ j. not (met_bad t j))
+
+-- the line that memory read goes into the fetch cache
 abbrev pub fetched : Transfer → List ℕ → CoreValue → CoreValue
 fetched t words v = record v {
   ports = record v.ports {
-    fetch_cache = filled_cache t.addr (valid_by (λ j. not (met_bad t j) && is_text_word v.setup.image.text (t.addr + 4 * j))) words v.ports.fetch_cache;
+    fetch_cache = filled_cache t.addr (text_valid v.setup.image t) words v.ports.fetch_cache;
   };
 }
 
--- and into the data cache: a word is valid where it was read clean or corrected
+-- and into the data cache
 abbrev pub loaded : Transfer → List ℕ → CoreValue → CoreValue
 loaded t words v = record v {
-  ports = record v.ports { data_cache = filled_cache t.addr (valid_by (λ j. not (met_bad t j))) words v.ports.data_cache };
+  ports = record v.ports { data_cache = filled_cache t.addr (data_valid t) words v.ports.data_cache };
 }
 
 -- ---- LDSTUB and SWAP

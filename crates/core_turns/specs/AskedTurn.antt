@@ -1,5 +1,5 @@
 -- The transfer that a core asks the bus for once it has caught up, and what the core comes to by what memory answers.
-use Rattle.std.specs.Prelude.{ℕ, ◌+◌, ◌*◌, ◌/◌, ◌%◌, List, [], ◌∷◌, find, slice_get, slice_index, Option, Some, None, Result, Ok, Err}
+use Rattle.std.specs.Prelude.{ℕ, ◌+◌, ◌*◌, ◌/◌, ◌%◌, List, [], ◌∷◌, find, slice_index, Option, Some, None, Result, Ok, Err}
 use Rattle.ahb_bus.specs.BusState.{BusState, asked_by, answered}
 use Rattle.ahb_bus.specs.declared.record.Who.{Who}
 use Rattle.core_parts.specs.CoreValue.{CoreValue}
@@ -11,6 +11,7 @@ use Rattle.lf_model.specs.Caches.Slot.{line_of, wanted_words}
 use Rattle.lf_model.specs.Course.Syndromes.{syndromes_of, met_bad}
 use Rattle.lf_model.specs.declared.bus.Bad.{Bad}
 use Rattle.lf_model.specs.declared.bus.Transfer.{Transfer}
+use Rattle.lf_model.specs.declared.bus.TurnKind.{TurnKind}
 use Rattle.lf_model.specs.declared.bus.TurnKind.TheVariants as kinds
 use Rattle.lf_model.specs.declared.bus.Why.{Why}
 use Rattle.lf_model.specs.declared.bus.Why.TheVariants as whys
@@ -29,16 +30,20 @@ who_of v = record { master = v.arch.core; step = v.steps }
 abbrev pub way_for : ℕ → Cache → ℕ
 way_for line cache = way_of (victim line cache) cache
 
--- the drain of the store that has waited longest
-abbrev pub asked_drain : CoreValue → BusState → Why → Option Waiting → Transfer
-asked_drain v bus why None = asked_by bus (who_of v) kinds.Store why 0 0 0
-asked_drain v bus why (Some p) = asked_by bus (who_of v) kinds.Store why p.addr 0 p.len
+-- a fill of this line, of the fetch cache or the data cache
+abbrev pub asked_fill : BusState → Who → TurnKind → Why → ℕ → Cache → Transfer
+asked_fill bus who kind why line cache = asked_by bus who kind why line (way_for line cache) 0
+
+-- the drain of the first of these stores
+abbrev pub asked_drain : BusState → Who → Why → List Waiting → Transfer
+asked_drain bus who why [] = asked_by bus who kinds.Store why 0 0 0
+asked_drain bus who why (p ∷ ps) = asked_by bus who kinds.Store why p.addr 0 p.len
 
 abbrev pub asked_for : CoreValue → BusState → Turn → Transfer
-asked_for v bus (Fetch line why) = asked_by bus (who_of v) kinds.Fetch why line (way_for line v.ports.fetch_cache.cache) 0
-asked_for v bus (Load addr len why) = asked_by bus (who_of v) kinds.Load why (line_of addr) (way_for (line_of addr) v.ports.data_cache.cache) 0
+asked_for v bus (Fetch line why) = asked_fill bus (who_of v) kinds.Fetch why line v.ports.fetch_cache.cache
+asked_for v bus (Load addr len why) = asked_fill bus (who_of v) kinds.Load why (line_of addr) v.ports.data_cache.cache
 asked_for v bus (Atomic addr len new rd) = asked_by bus (who_of v) kinds.Atomic whys.None addr 0 len
-asked_for v bus (Drain why) = asked_drain v bus why (slice_get v.ports.waiting 0)
+asked_for v bus (Drain why) = asked_drain bus (who_of v) why v.ports.waiting
 asked_for v bus Snoop = asked_by bus (who_of v) kinds.Snoop whys.Window 0 0 0
 
 -- as memory answers it

@@ -1,6 +1,7 @@
 -- What a turn makes of the core, of the bus and of memory.
-use Rattle.std.specs.Prelude.{ℕ, List, [], ◌∷◌, slice_get, Option, Some, None}
+use Rattle.std.specs.Prelude.{ℕ, List, [], ◌∷◌}
 use Rattle.ahb_bus.specs.BusState.{BusState, memory_of, part_of, after_turn, stored_by, exchanged_by}
+use Rattle.ahb_bus.specs.declared.record.Who.{Who}
 use Rattle.bus_memory.specs.MemoryState.{line_shown, value_at}
 use Rattle.core_parts.specs.CoreValue.{CoreValue}
 use Rattle.lf_model.specs.Bus.Words.{word_of}
@@ -44,15 +45,16 @@ core_after bus turn pending v = let ready = snooping bus.log v in let t = transf
 abbrev pub next_atomic : ℕ → ℕ → ℕ → CoreValue → Pending
 next_atomic addr len new v = record { value = new; addr = addr; k = v.arch.k; step = v.steps; len = len }
 
-abbrev pub drained_by : BusState → Why → List Pending → CoreValue → BusState
-drained_by bus why [] v = bus
-drained_by bus why (p ∷ ps) v = stored_by (who_of v) why p bus
+-- the drain of the first of these stores
+abbrev pub drained_by : BusState → Who → Why → List Pending → BusState
+drained_by bus who why [] = bus
+drained_by bus who why (p ∷ ps) = stored_by who why p bus
 
 abbrev pub bus_by : BusState → Turn → List Pending → CoreValue → BusState
 bus_by bus (Fetch line why) pending v = after_turn (asked_for v bus (Fetch line why)) [] bus.values bus
 bus_by bus (Load addr len why) pending v = after_turn (asked_for v bus (Load addr len why)) [] bus.values bus
 bus_by bus (Atomic addr len new rd) pending v = exchanged_by (who_of v) (next_atomic addr len new v) bus
-bus_by bus (Drain why) pending v = drained_by bus why pending v
+bus_by bus (Drain why) pending v = drained_by bus (who_of v) why pending
 bus_by bus Snoop pending v = after_turn (asked_for v bus Snoop) [] bus.values bus
 
 abbrev pub bus_after : BusState → Turn → List Pending → CoreValue → BusState
