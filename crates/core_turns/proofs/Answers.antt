@@ -111,9 +111,11 @@ module _ (bus : BusState) (ok : BusOk bus) (asked : Transfer) (reads : reads_lin
   found_in_line js = find_same (is_bad_in line) (met_bad t) bad_in_line js
 
   pub data_bits : valid_by (λ j. not (is_bad_in line j)) ≡ data_valid t
+  unfolding data_valid
   data_bits = valid_same (λ j. not (is_bad_in line j)) (λ j. not (met_bad t j)) (λ j. ap not (bad_in_line j))
 
   pub text_bits : (image : Image) → valid_by (λ j. not (is_bad_in line j) && is_text_word image.text (asked.addr + 4 * j)) ≡ text_valid image t
+  unfolding text_valid
   text_bits image =
       valid_same (λ j. not (is_bad_in line j) && is_text_word image.text (asked.addr + 4 * j)) (λ j. not (met_bad t j) && is_text_word image.text (asked.addr + 4 * j))
       (λ j. ap (λ b. not b && is_text_word image.text (asked.addr + 4 * j)) (bad_in_line j))

@@ -18,7 +18,7 @@ use Rattle.lf_model.specs.declared.bus.Entry.{Entry}
 use Rattle.lf_model.specs.declared.bus.Transfer.{Transfer}
 use Rattle.lf_model.specs.declared.bus.TurnKind.TheVariants.{Fetch, Load, Store, Atomic, Snoop}
 use Rattle.snoop.specs.Snooping.{address_of}
-use Rattle.core_turns.specs.AfterTurn.{unseen_in, snooping, fetched, loaded, state_in, exchanged}
+use Rattle.core_turns.specs.AfterTurn.{text_valid, data_valid, unseen_in, snooping, fetched, loaded, state_in, exchanged}
 use Rattle.core_turns.specs.BeforeTurn.{seat_at_turn, BeforeTurn}
 
 module _ (g : Ground) (seat : Progress) (v : CoreValue) (log : List Entry) (t : Transfer) (h : BeforeTurn g seat v log t.why) where
@@ -53,11 +53,13 @@ module _ (g : Ground) (seat : Progress) (v : CoreValue) (log : List Entry) (t : 
 
   module _ (placed : has_address t ≡ true) where
     pub arrays_fetched : (words : List ℕ) → t.kind ≡ Fetch → arrays_in (fetched t words ready).ports ≡ (own_turn g t at_turn).arrays
+    unfolding text_valid
     arrays_fetched words kind =
         ap (λ s. fetch_filled s.image t (arrays_in ready.ports)) (sym h.setup)
         ∙ (ap (transferred g.setup.image (next_effect g seat) t (arrays_in ready.ports)) (sym kind) ∙ arrays_made placed)
 
     pub arrays_loaded : (words : List ℕ) → t.kind ≡ Load → arrays_in (loaded t words ready).ports ≡ (own_turn g t at_turn).arrays
+    unfolding data_valid
     arrays_loaded words kind = ap (transferred g.setup.image (next_effect g seat) t (arrays_in ready.ports)) (sym kind) ∙ arrays_made placed
 
     pub arrays_drained : t.kind ≡ Store → arrays_in ready.ports ≡ (own_turn g t at_turn).arrays

@@ -39,11 +39,11 @@ snooping log v = record v {
 -- ---- fills
 
 -- the valid bits of a line in the fetch cache: of the words that memory read clean or corrected, and that are text
-abbrev pub text_valid : Image → Transfer → ℕ
+unfoldable pub text_valid : Image → Transfer → ℕ
 text_valid image t = valid_by (λ j. not (met_bad t j) && is_text_word image.text (t.addr + 4 * j))
 
 -- and in the data cache: of those that it read clean or corrected
-abbrev pub data_valid : Transfer → ℕ
+unfoldable pub data_valid : Transfer → ℕ
 data_valid t = valid_by (λ j. not (met_bad t j))
 
 -- the line that memory read goes into the fetch cache
