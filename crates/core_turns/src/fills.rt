@@ -20,7 +20,7 @@ use lf_model::step::Did;
 use parity_cache::ParityCache;
 
 /// Fills a line of the fetch cache, at a multiple of 32 in RAM.
-pub fn fill_text(
+fn fill_text(
     cache: &mut ParityCache,
     site: &Site,
     bus: &mut Bus,
@@ -49,7 +49,7 @@ pub fn fill_text(
 }
 
 /// Fills a line of the data cache, at a multiple of 32 in RAM.
-pub fn fill_data(cache: &mut ParityCache, bus: &mut Bus, who: Who, why: Why, line: u32) -> Line
+fn fill_data(cache: &mut ParityCache, bus: &mut Bus, who: Who, why: Why, line: u32) -> Line
     requires begun { bus.old.begun ≡ true }
     requires ok { BusOk bus.old }
     requires turn { IsCoreTurn who bus.old }

@@ -8,5 +8,5 @@
 mod fills;
 mod turn;
 
-pub use fills::{fetch, fill_data, fill_text, load};
+pub use fills::{fetch, load};
 pub use turn::catch_up;
