@@ -1,5 +1,5 @@
 -- What a turn answers is by the transfer that it made: the lowest bad word of those that it wants, if there is one.
-use Rattle.std.proofs.Common.{◌≡◌, ◌∙◌, ◌+◌, ◌*◌, ◌≤◌, ◌%◌, ◌/◌, ◌&&◌, ◌||◌, ℕ, true, false, Bool, not, nat_lt, IsTrue, Result, Ok, Err, List, [], ◌∷◌, Option, Some, None, length, map, find, refl, ap, sym, arith, if◌then◌else◌}
+use Rattle.std.proofs.Common.{◌≡◌, ◌∙◌, ◌+◌, ◌*◌, ◌≤◌, ◌&&◌, ◌||◌, ℕ, true, false, Bool, not, nat_lt, IsTrue, Result, Ok, Err, List, [], ◌∷◌, Option, Some, None, length, find, refl, ap, sym, arith, if◌then◌else◌}
 use Rattle.std.proofs.lemmas.List.{length-map}
 use Rattle.std.specs.List.{list_any}
 use Rattle.std.specs.Prelude.{slice_index, is_ok}
@@ -24,7 +24,6 @@ use Rattle.lf_model.specs.declared.bus.Bad.{Bad}
 use Rattle.lf_model.specs.declared.bus.Line.{Line}
 use Rattle.lf_model.specs.declared.bus.Pending.{Pending}
 use Rattle.lf_model.specs.declared.bus.Transfer.{Transfer}
-use Rattle.lf_model.specs.declared.bus.TurnKind.{TurnKind}
 use Rattle.lf_model.specs.declared.bus.TurnKind.TheVariants as kinds
 use Rattle.lf_model.specs.declared.bus.Why.{Why}
 use Rattle.lf_model.specs.declared.bus.Why.TheVariants as whys
@@ -32,7 +31,6 @@ use Rattle.lf_model.specs.declared.image.Image.{Image}
 use Rattle.lf_model.specs.declared.step.Did.{Did}
 use Rattle.lf_model.specs.declared.step.Turn.{Turn}
 use Rattle.lf_model.specs.declared.step.Turn.TheVariants.{Fetch, Load, Atomic, Drain, Snoop}
-use Rattle.ram_words.specs.declared.answer.Got.{Got}
 use Rattle.core_turns.specs.AfterTurn.{text_valid, data_valid}
 use Rattle.core_turns.specs.AskedTurn.{wants, made_good, bad_word, comes_to, turn_answer}
 

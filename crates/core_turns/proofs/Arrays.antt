@@ -1,22 +1,21 @@
 -- The arrays of a core after its turn are those of the definitions: it catches up, and the transfer fills a line, ends an atomic, or leaves
 -- them.
-use Rattle.std.proofs.Common.{◌≡◌, ◌∙◌, ◌+◌, ◌-◌, ◌≤◌, ◌++◌, ℕ, true, false, List, [], length, map, drop, refl, ap, sym, arith}
+use Rattle.std.proofs.Common.{◌≡◌, ◌∙◌, ◌+◌, ℕ, true, false, List, length, drop, refl, ap, sym, arith}
 use Rattle.std.proofs.lemmas.List.{length-map, length-drop}
 use Rattle.std.specs.Int.{from_bool}
 use Rattle.core_parts.specs.CoreValue.{CoreValue}
 use Rattle.core_parts.specs.Moves.{seen_with}
 use Rattle.core_parts.specs.PortState.{arrays_in}
-use Rattle.lf_model.specs.Course.Arrays.{write_cells}
 use Rattle.lf_model.specs.Course.Core.{Ground}
 use Rattle.lf_model.specs.Course.Progress.{Progress}
 use Rattle.lf_model.specs.Course.Syndromes.{has_address, enters_log}
 use Rattle.lf_model.specs.Course.Turn.{caught_up, arrays_before}
 use Rattle.lf_model.specs.Course.Turned.{own_turn, fetch_filled, transferred}
-use Rattle.lf_model.specs.Effect.{Effect, cell_written}
+use Rattle.lf_model.specs.Effect.{cell_written}
 use Rattle.lf_model.specs.Records.OwnTurns.{next_effect}
 use Rattle.lf_model.specs.declared.bus.Entry.{Entry}
 use Rattle.lf_model.specs.declared.bus.Transfer.{Transfer}
-use Rattle.lf_model.specs.declared.bus.TurnKind.TheVariants.{Fetch, Load, Store, Atomic, Snoop}
+use Rattle.lf_model.specs.declared.bus.TurnKind.TheVariants.{Fetch, Load, Store, Atomic}
 use Rattle.snoop.specs.Snooping.{address_of}
 use Rattle.core_turns.specs.AfterTurn.{text_valid, data_valid, unseen_in, snooping, fetched, loaded, state_in, exchanged}
 use Rattle.core_turns.specs.BeforeTurn.{seat_at_turn, BeforeTurn}

@@ -13,13 +13,10 @@ use Rattle.core_parts.specs.Work.{waiting_in}
 use Rattle.lf_model.specs.Course.Syndromes.{has_address, enters_log}
 use Rattle.lf_model.specs.Start.{is_in_ram}
 use Rattle.lf_model.specs.declared.bus.Bad.{Bad}
-use Rattle.lf_model.specs.declared.bus.Entry.{Entry}
 use Rattle.lf_model.specs.declared.bus.Pending.{Pending}
 use Rattle.lf_model.specs.declared.bus.Transfer.{Transfer}
 use Rattle.lf_model.specs.declared.bus.TurnKind.TheVariants.{Store}
 use Rattle.lf_model.specs.declared.bus.Why.{Why}
-use Rattle.lf_model.specs.declared.step.Did.{Did}
-use Rattle.lf_model.specs.declared.step.Did.TheVariants.{Turned}
 use Rattle.lf_model.specs.declared.step.Turn.TheVariants.{Drain}
 use Rattle.store_buffer.specs.BufferState.{BufferState}
 use Rattle.core_turns.proofs.Answers.{did_by, drain_answer}

@@ -1,12 +1,11 @@
 -- What a core has after the turn of an atomic that retires: LDSTUB and SWAP.
-use Rattle.std.proofs.Common.{◌≡◌, ◌∙◌, ◌+◌, ◌==◌, ◌++◌, ℕ, true, false, Bool, List, [], ◌∷◌, Some, None, length, map, refl, ap, sym, arith, if◌then◌else◌}
+use Rattle.std.proofs.Common.{◌≡◌, ◌∙◌, ◌+◌, ◌==◌, ◌++◌, ℕ, true, false, Bool, List, [], ◌∷◌, None, length, map, refl, ap, sym, arith}
 use Rattle.std.proofs.lemmas.List.{append-nil, length-map, map-append}
 use Rattle.std.proofs.lemmas.List.Elements.{filter-append}
-use Rattle.std.specs.Int.{from_bool}
-use Rattle.std.specs.Prelude.{slice_index, filter}
+use Rattle.std.specs.Prelude.{filter}
 use Rattle.core_laws.proofs.Completions.{reported_more}
 use Rattle.core_parts.specs.CoreValue.{CoreValue}
-use Rattle.core_parts.specs.Moves.{Exchanges, seen_with, stores_in}
+use Rattle.core_parts.specs.Moves.{Exchanges, seen_with}
 use Rattle.core_parts.specs.Phases.{halt_by}
 use Rattle.core_parts.specs.Seat.{run_of_core}
 use Rattle.core_parts.specs.declared.phase.Phase.{Phase}
@@ -16,12 +15,11 @@ use Rattle.lf_model.specs.Course.Syndromes.{has_address, enters_log}
 use Rattle.lf_model.specs.Effect.{cell_written}
 use Rattle.lf_model.specs.Operation.{made}
 use Rattle.lf_model.specs.Records.OwnTurns.{next_effect}
-use Rattle.lf_model.specs.Run.{Run, operation, answered, reads_of}
+use Rattle.lf_model.specs.Run.{Run, operation, answered}
 use Rattle.lf_model.specs.State.{State, with_register, advanced}
 use Rattle.lf_model.specs.declared.bus.Entry.{Entry}
 use Rattle.lf_model.specs.declared.bus.Transfer.{Transfer}
 use Rattle.lf_model.specs.declared.bus.TurnKind.TheVariants.{Atomic}
-use Rattle.lf_model.specs.declared.trace.Op.{Op}
 use Rattle.lf_model.specs.declared.trace.Word2.{Word2}
 use Rattle.core_turns.proofs.Arrays.{seen_all, arrays_exchanged}
 use Rattle.core_turns.specs.AfterTurn.{snooping, state_in, state_read, atomic_op, exchanged, turn_ended}

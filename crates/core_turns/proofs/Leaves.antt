@@ -1,5 +1,5 @@
 -- What a core has after a turn that retires no instruction: the turn has met no bad word that it wants, or it has, and stops the core.
-use Rattle.std.proofs.Common.{◌≡◌, ◌∙◌, ◌+◌, ◌<◌, ◌==◌, ℕ, suc, true, false, Bool, nat_le, List, [], ◌∷◌, None, length, map, drop, refl, ap, sym, arith, if◌then◌else◌}
+use Rattle.std.proofs.Common.{◌≡◌, ◌∙◌, ◌+◌, ◌<◌, ◌==◌, ℕ, suc, true, false, Bool, nat_le, List, [], ◌∷◌, None, length, map, refl, ap, sym, arith, if◌then◌else◌}
 use Rattle.std.proofs.lemmas.List.{length-drop}
 use Rattle.std.specs.Int.{from_bool}
 use Rattle.std.specs.Prelude.{slice_index, filter}

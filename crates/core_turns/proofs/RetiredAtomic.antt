@@ -1,6 +1,6 @@
 -- The core after an atomic that retires, from what `finish_atomic` says of its state registers and of the parts that it works on.
-use Rattle.std.proofs.Common.{◌≡◌, ◌∙◌, ◌+◌, ℕ, List, [], ◌∷◌, fold, refl, ap, sym}
-use Rattle.core_parts.specs.CoreValue.{CoreValue, seen_of}
+use Rattle.std.proofs.Common.{◌≡◌, ◌∙◌, ◌+◌, ℕ, List, [], ◌∷◌, fold, refl, ap}
+use Rattle.core_parts.specs.CoreValue.{CoreValue}
 use Rattle.core_parts.specs.Inside.{ports_of, state_in, seen_in, value_of}
 use Rattle.core_parts.specs.Work.{WorkState, work_touch}
 use Rattle.core_parts.specs.declared.parts.Parts.{Parts}

@@ -1,29 +1,27 @@
 -- The transfer that a core makes is the one that its step needs.
-use Rattle.std.proofs.Common.{◌≡◌, ◌∙◌, ℕ, true, false, Bool, nat_le, subst, List, [], ◌∷◌, Option, Some, None, length, refl, ap, sym, if◌then◌else◌}
+use Rattle.std.proofs.Common.{◌≡◌, ◌∙◌, ℕ, true, false, Bool, nat_le, subst, List, [], ◌∷◌, Option, Some, None, length, refl, ap, sym}
 use Rattle.std.specs.Prelude.{option_map, slice_get}
 use Rattle.ahb_bus.specs.BusState.{BusState, answered}
 use Rattle.core_parts.specs.CoreValue.{CoreValue}
-use Rattle.core_parts.specs.Needs.{kind_of, why_of, IsLoadOf, IsAtomicOf, IsTurnOf}
+use Rattle.core_parts.specs.Needs.{IsLoadOf, IsAtomicOf}
 use Rattle.core_parts.specs.PortState.{Waiting, arrays_in}
 use Rattle.core_parts.specs.Seat.{NeedsTurn}
 use Rattle.lf_model.specs.Bus.Words.{words_read}
 use Rattle.lf_model.specs.Caches.Slot.{line_of}
-use Rattle.lf_model.specs.Course.Arrays.{Arrays}
 use Rattle.lf_model.specs.Course.Attempt.{attempt}
 use Rattle.lf_model.specs.Course.Core.{Ground}
-use Rattle.lf_model.specs.Course.Outcome.{Outcome, drains, step_needs}
+use Rattle.lf_model.specs.Course.Outcome.{drains, step_needs}
 use Rattle.lf_model.specs.Course.Outcome.Need.{NoTurn, Turn as Asks}
 use Rattle.lf_model.specs.Course.Outcome.Outcome.{NotTried, NoText}
 use Rattle.lf_model.specs.Course.Progress.{Progress, store_waits, buffer_full}
 use Rattle.lf_model.specs.Course.Syndromes.{has_address}
-use Rattle.lf_model.specs.Course.Turn.{Target, line_target, load_target, atomic_target, store_target, target_by, target_of, fill_way, arrays_before, addressed_at, is_past_steps, leaves_instruction, turn_attempt, turn_needs}
+use Rattle.lf_model.specs.Course.Turn.{line_target, load_target, atomic_target, store_target, target_by, fill_way, arrays_before, is_past_steps, leaves_instruction, turn_attempt, turn_needs}
 use Rattle.lf_model.specs.Effect.{Access, Effect}
 use Rattle.lf_model.specs.Names.{same_why}
 use Rattle.lf_model.specs.Records.OwnTurns.{next_effect, with_word_count, IsRightTurn}
 use Rattle.lf_model.specs.Start.{is_text_word}
 use Rattle.lf_model.specs.declared.bus.Entry.{Entry}
 use Rattle.lf_model.specs.declared.bus.Transfer.{Transfer}
-use Rattle.lf_model.specs.declared.bus.TurnKind.{TurnKind}
 use Rattle.lf_model.specs.declared.bus.TurnKind.TheVariants as kinds
 use Rattle.lf_model.specs.declared.bus.Why.{Why}
 use Rattle.lf_model.specs.declared.bus.Why.TheVariants as whys

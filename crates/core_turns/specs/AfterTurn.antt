@@ -2,7 +2,6 @@
 use Rattle.std.specs.Prelude.{ℕ, ◌+◌, ◌*◌, ◌&&◌, not, nat_le, List, [], ◌∷◌, ◌++◌, length, map, fold, drop, if◌then◌else◌}
 use Rattle.core_laws.specs.SeenSoFar.{losing}
 use Rattle.core_parts.specs.CoreValue.{CoreValue, seen_of}
-use Rattle.core_parts.specs.PortState.{PortState}
 use Rattle.core_parts.specs.declared.phase.Phase.{Phase}
 use Rattle.lf_model.specs.Caches.Slot.{befalls_each, written}
 use Rattle.lf_model.specs.Caches.Change.{snooped}

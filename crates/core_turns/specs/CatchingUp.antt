@@ -1,5 +1,5 @@
 -- The parts of a core that has caught up with the log.
-use Rattle.std.specs.Prelude.{ℕ, List, length, map, fold, drop}
+use Rattle.std.specs.Prelude.{List, length, map, fold, drop}
 use Rattle.core_parts.specs.declared.parts.Parts.{Parts}
 use Rattle.lf_model.specs.Caches.Change.{snooped}
 use Rattle.lf_model.specs.declared.bus.Entry.{Entry}

@@ -1,5 +1,5 @@
 -- The drain of the store that has waited longest: what it asks, and what it leaves.
-use Rattle.std.specs.Prelude.{ℕ, ◌≡◌, ◌+◌, ◌*◌, ◌%◌, ◌^◌, ◌<◌, true, false, Bool, IsTrue, List, [], ◌∷◌, drop, if◌then◌else◌}
+use Rattle.std.specs.Prelude.{◌≡◌, ◌+◌, ◌*◌, ◌%◌, ◌^◌, ◌<◌, true, false, Bool, IsTrue, List, [], ◌∷◌, drop, if◌then◌else◌}
 use Rattle.core_laws.specs.SeenSoFar.{losing}
 use Rattle.core_parts.specs.declared.parts.Parts.{Parts}
 use Rattle.lf_model.specs.Promise.Regular.{is_length}

@@ -6,7 +6,6 @@ use Rattle.bus_memory.specs.MemoryState.{line_shown, value_at}
 use Rattle.core_parts.specs.CoreValue.{CoreValue}
 use Rattle.lf_model.specs.Bus.Words.{word_of}
 use Rattle.lf_model.specs.declared.bus.Pending.{Pending}
-use Rattle.lf_model.specs.declared.bus.Transfer.{Transfer}
 use Rattle.lf_model.specs.declared.bus.Why.{Why}
 use Rattle.lf_model.specs.declared.step.Turn.{Turn}
 use Rattle.lf_model.specs.declared.step.Turn.TheVariants.{Fetch, Load, Atomic, Drain, Snoop}
