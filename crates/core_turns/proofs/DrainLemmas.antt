@@ -1,0 +1,84 @@
+-- The drain of the store that waits first: its transfer, what it leaves, and its answer.
+use Rattle.std.proofs.Common.{◌≡◌, ◌∙◌, ◌+◌, ◌++◌, ◌≤◌, ◌==◌, ℕ, true, false, IsTrue, not, Option, Result, Ok, Err, List, [], ◌∷◌, Some, None, length, map, drop, cond, refl, ap, sym, arith}
+use Rattle.std.proofs.lemmas.Bool.Decides.{nat_tests}
+use Rattle.std.proofs.lemmas.List.{length-append}
+use Rattle.std.specs.Prelude.{slice_get, is_ok}
+use Rattle.ahb_bus.proofs.ShownLemmas.{store_shown, store_log}
+use Rattle.ahb_bus.proofs.TakenLemmas.{some_length}
+use Rattle.ahb_bus.specs.BusOk.{BusOk}
+use Rattle.ahb_bus.specs.BusState.{BusState, memory_of, asked_by, answered, store_entry, stored_by}
+use Rattle.ahb_bus.specs.declared.record.Who.{Who}
+use Rattle.bus_memory.specs.MemoryState.{store_answer}
+use Rattle.core_parts.specs.Work.{waiting_in}
+use Rattle.lf_model.specs.Course.Syndromes.{has_address, enters_log}
+use Rattle.lf_model.specs.Start.{is_in_ram}
+use Rattle.lf_model.specs.declared.bus.Bad.{Bad}
+use Rattle.lf_model.specs.declared.bus.Pending.{Pending}
+use Rattle.lf_model.specs.declared.bus.Transfer.{Transfer}
+use Rattle.lf_model.specs.declared.bus.TurnKind.TheVariants.{Store}
+use Rattle.lf_model.specs.declared.bus.Why.{Why}
+use Rattle.lf_model.specs.declared.step.Turn.TheVariants.{Drain}
+use Rattle.store_buffer.specs.BufferState.{BufferState}
+use Rattle.core_turns.proofs.Answers.{did_by, drain_answer}
+use Rattle.core_turns.specs.AskedTurn.{asked_drain, turn_answer}
+use Rattle.core_turns.specs.Drains.{CanStore, CanDrain}
+use Rattle.core_turns.specs.MakesTurn.{first_number, drained_by}
+
+-- an address of RAM is not 0
+pub in_ram_placed : (ram addr len : ℕ) → IsTrue (is_in_ram ram addr len) → not (addr == 0) ≡ true
+in_ram_placed ram addr len inside = grind (arith, nat_tests)
+
+-- the first of the stores that wait
+pub record IsFirst (bus : BusState) (who : Who) (why : Why) (ps : List Pending) (p : Pending) : Type 0 where
+  pub can : CanStore bus.setup p
+  pub asked : asked_drain bus who why (map waiting_in ps) ≡ asked_by bus who Store why p.addr 0 p.len
+  pub made : drained_by bus who why ps ≡ stored_by who why p bus
+  pub number : first_number ps ≡ p.k
+
+pub first : (bus : BusState) (who : Who) (why : Why) (ps : List Pending) (p : Pending) → Some p ≡ slice_get ps 0 → CanDrain bus.setup ps → IsFirst bus who why ps p
+first bus who why [] p front can = absurd can
+first bus who why (q ∷ ps) p front can = by (ap (λ (o : Option Pending). or_else o) front)
+  where
+    or_else : Option Pending → Pending
+    or_else None = p
+    or_else (Some r) = r
+
+    by : p ≡ q → IsFirst bus who why (q ∷ ps) p
+    by same = rw same (record { can = can; asked = refl; made = refl; number = refl })
+
+-- what is left once it is taken out
+pub popped : (old new : BufferState) (p : Pending) → old ≡ record new { waiting = p ∷ new.waiting } → new ≡ record old { waiting = drop 1 old.waiting }
+popped old new p is = sym (ap (λ (b : BufferState). record b { waiting = drop 1 b.waiting }) is)
+
+module _ (bus : BusState) (who : Who) (why : Why) (ps : List Pending) (p : Pending) (ok : BusOk bus) (h : IsFirst bus who why ps p) where
+  abbrev pub t : Transfer
+  t = answered bus (asked_drain bus who why (map waiting_in ps))
+
+  same_transfer : t ≡ answered bus (asked_by bus who Store why p.addr 0 p.len)
+  same_transfer = ap (answered bus) h.asked
+
+  some : 1 ≤ p.len
+  some = some_length p.len h.can.size
+
+  placed : has_address (answered bus (asked_by bus who Store why p.addr 0 p.len)) ≡ true
+  placed = in_ram_placed bus.setup.config.ram p.addr p.len h.can.in_ram
+
+  shown : is_ok (store_answer (memory_of bus) p.addr p.len) ≡ enters_log t
+  shown = store_shown bus ok who why p some h.can.in_ram ∙ ap enters_log (sym same_transfer)
+
+  pub enters : (syn : ℕ) → Ok syn ≡ store_answer (memory_of bus) p.addr p.len → enters_log t ≡ true
+  enters syn is = sym shown ∙ ap is_ok (sym is)
+
+  pub lost : (bad : Bad) → Err bad ≡ store_answer (memory_of bus) p.addr p.len → enters_log t ≡ false
+  lost bad is = sym shown ∙ ap is_ok (sym is)
+
+  pub answers : (pc : ℕ) (r : Result ℕ Bad) → r ≡ store_answer (memory_of bus) p.addr p.len → did_by (Drain why) r ≡ turn_answer pc (Drain why) t
+  answers pc r is =
+      ap (did_by (Drain why)) is
+      ∙ (drain_answer bus who why p some h.can.in_ram ok pc placed
+      ∙ ap (turn_answer pc (Drain why)) (sym same_transfer))
+
+  pub log_longer : (syn : ℕ) → Ok syn ≡ store_answer (memory_of bus) p.addr p.len → length (stored_by who why p bus).log ≡ length bus.log + 1
+  log_longer syn is =
+      ap length (store_log bus ok who why p some h.can.in_ram ∙ ap (λ b. bus.log ++ cond b (store_entry who p ∷ []) []) (ap enters_log (sym same_transfer) ∙ enters syn is))
+      ∙ length-append bus.log (store_entry who p ∷ [])
