@@ -1,0 +1,4 @@
+pub mod Places
+pub mod LargestNumber
+pub mod Numbers
+pub mod OnceFirst
