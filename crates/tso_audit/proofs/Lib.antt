@@ -2,3 +2,4 @@ pub mod Places
 pub mod LargestNumber
 pub mod Numbers
 pub mod OnceFirst
+pub mod LastPlace
