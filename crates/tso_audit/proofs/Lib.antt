@@ -1,0 +1,5 @@
+pub mod Places
+pub mod LargestNumber
+pub mod Numbers
+pub mod OnceFirst
+pub mod LastPlace

@@ -1,0 +1,32 @@
+use Rattle.std.proofs.Common.{◌∙◌, ◌<◌, ℕ, refl, get_or, sym, arith, below_more, length-set}
+use Rattle.lf_model.specs.Operation.{of_core}
+use Rattle.lf_model.specs.Order.{LoadOpAt}
+use Rattle.lf_model.specs.Places.{AtPlace}
+use Rattle.tso_audit.proofs.LargestNumber.{keeps_more}
+use Rattle.tso_audit.proofs.Numbers.{core_own, number_of_core, load_op_fails, load_op_passes}
+use Rattle.tso_audit.proofs.Places.{no_op}
+use Rattle.tso_audit.proofs.sequence.first_early_load.Goals as goal
+
+pub returns-then-is_early_load : goal.returns-then-is_early_load
+returns-then-is_early_load c = record {
+  first = (
+    c.loop-i-test.true,
+    load_op_fails c.args.order.now c.loop-i.i (get_or c.loop-i.next (get_or c.args.order.now c.loop-i.i no_op).core 0) c.loop-i.next c.loop-i-test.true
+        (c.requires.cores c.loop-i.i no_op c.loop-i-test.true) refl c.loop-i.invariant.keeps (sym c.is_early_load.ensures ∙ c.if-is_early_load.true),
+    c.loop-i.invariant.held,
+  );
+}
+
+pub loop-i-preserved : goal.loop-i-preserved
+loop-i-preserved c =
+    let low : (get_or c.args.order.now c.loop-i.i no_op).core < 8 = c.requires.cores c.loop-i.i no_op c.loop-i-test.true in
+    record {
+      size = length-set c.loop-i.next (get_or c.args.order.now c.loop-i.i no_op).core c.max.result ∙ c.loop-i.invariant.size;
+      keeps =
+          keeps_more of_core core_own c.loop-i.next c.args.order.now c.loop-i.i no_op c.max.result c.loop-i-test.true (omega (arith, low, c.loop-i.invariant.size)) c.loop-i.invariant.keeps
+          (omega (arith, number_of_core (get_or c.args.order.now c.loop-i.i no_op)));
+      held =
+          below_more (λ (j : ℕ). AtPlace LoadOpAt c.args.order.now j) c.loop-i.i c.loop-i.invariant.held
+          (load_op_passes c.args.order.now c.loop-i.i (get_or c.loop-i.next (get_or c.args.order.now c.loop-i.i no_op).core 0) c.loop-i.next c.loop-i-test.true low refl
+          c.loop-i.invariant.keeps (sym c.is_early_load.ensures ∙ c.if-is_early_load.false));
+    }

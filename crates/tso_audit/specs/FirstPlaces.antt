@@ -1,0 +1,33 @@
+-- The first place at which each rule of the audit fails, none where it fails nowhere.
+use Rattle.std.specs.Prelude.{ℕ, ◌<◌, List, length, Option, All}
+use Rattle.lf_model.specs.Ledger.Rule.{TriedBefore, NoneLeft}
+use Rattle.lf_model.specs.Once.{OnceAtCore, OnceAtOrder, OnceAtTransfer, OnceAtFinal}
+use Rattle.lf_model.specs.Order.{LoadOpAt, StoreStoreAt}
+use Rattle.lf_model.specs.Places.{AtPlace}
+use Rattle.lf_model.specs.declared.place.Place.{Place}
+use Rattle.lf_model.specs.declared.place.Place.TheVariants.{Core, Order, Transfer, Final}
+use Rattle.lf_model.specs.declared.setup.Setup.{Setup}
+use Rattle.lf_model.specs.declared.trace.Op.{Op}
+use Rattle.lf_model.specs.declared.trace.Trace.{Trace}
+
+-- each operation is of one of this many cores
+abbrev pub HasCoresBelow : ℕ → List Op → Type 0
+HasCoresBelow cores order = All (λ o. o.core < cores) order
+
+-- Once is tried at the cores, the operations, the transfers, and last at the counts of the trace
+abbrev pub OnceFailsFirst : Setup → Trace → Option Place → Type 0
+OnceFailsFirst setup trace =
+    TriedBefore setup.config.cores (OnceAtCore trace.order) Core
+    (TriedBefore (length trace.order) (AtPlace (OnceAtOrder setup.config.cores) trace.order) Order
+    (TriedBefore (length trace.transfers) (OnceAtTransfer setup.config.cores trace.transfers) Transfer
+    (TriedBefore 1 (λ i. OnceAtFinal setup trace) (λ i. Final) NoneLeft)))
+
+-- a rule about the operations of the order, and about nothing else
+abbrev pub OrderFailsFirst : (List Op → Op → List Op → Type 0) → Trace → Option Place → Type 0
+OrderFailsFirst Rule trace = TriedBefore (length trace.order) (AtPlace Rule trace.order) Order NoneLeft
+
+abbrev pub LoadOpFailsFirst : Trace → Option Place → Type 0
+LoadOpFailsFirst = OrderFailsFirst LoadOpAt
+
+abbrev pub StoreStoreFailsFirst : Trace → Option Place → Type 0
+StoreStoreFailsFirst = OrderFailsFirst StoreStoreAt
