@@ -1,15 +1,18 @@
 -- The drain of the store that waits first: its transfer, what it leaves, and its answer.
-use Rattle.std.proofs.Common.{◌≡◌, ◌∙◌, ◌+◌, ◌++◌, ◌≤◌, ◌==◌, ℕ, true, false, IsTrue, not, Option, Result, Ok, Err, List, [], ◌∷◌, Some, None, length, map, drop, cond, refl, ap, sym, arith}
+use Rattle.std.proofs.Common.{◌≡◌, ◌∙◌, ◌+◌, ◌++◌, ◌≤◌, ◌==◌, ℕ, true, false, IsTrue, not, Option, Result, Ok, Err, List, [], ◌∷◌, Some, None, length, map, drop, cond, refl, ap, sym, arith, if◌then◌else◌}
 use Rattle.std.proofs.lemmas.Bool.Decides.{nat_tests}
 use Rattle.std.proofs.lemmas.List.{length-append}
-use Rattle.std.specs.Prelude.{slice_get, is_ok}
+use Rattle.std.specs.Prelude.{slice_get, is_ok, ◌↔◌, IfSome, IsNone, Bool}
 use Rattle.ahb_bus.proofs.ShownLemmas.{store_shown, store_log}
 use Rattle.ahb_bus.proofs.TakenLemmas.{some_length}
 use Rattle.ahb_bus.specs.BusOk.{BusOk}
 use Rattle.ahb_bus.specs.BusState.{BusState, memory_of, asked_by, answered, store_entry, stored_by}
 use Rattle.ahb_bus.specs.declared.record.Who.{Who}
 use Rattle.bus_memory.specs.MemoryState.{store_answer}
+use Rattle.core_laws.specs.SeenSoFar.{losing}
+use Rattle.core_parts.specs.RecordState.{RecordState}
 use Rattle.core_parts.specs.Work.{waiting_in}
+use Rattle.core_parts.specs.declared.parts.Parts.{Parts}
 use Rattle.lf_model.specs.Course.Syndromes.{has_address, enters_log}
 use Rattle.lf_model.specs.Start.{is_in_ram}
 use Rattle.lf_model.specs.declared.bus.Bad.{Bad}
@@ -17,11 +20,12 @@ use Rattle.lf_model.specs.declared.bus.Pending.{Pending}
 use Rattle.lf_model.specs.declared.bus.Transfer.{Transfer}
 use Rattle.lf_model.specs.declared.bus.TurnKind.TheVariants.{Store}
 use Rattle.lf_model.specs.declared.bus.Why.{Why}
+use Rattle.lf_model.specs.declared.setup.Setup.{Setup}
 use Rattle.lf_model.specs.declared.step.Turn.TheVariants.{Drain}
 use Rattle.store_buffer.specs.BufferState.{BufferState}
 use Rattle.core_turns.proofs.Answers.{did_by, drain_answer}
 use Rattle.core_turns.specs.AskedTurn.{asked_drain, turn_answer}
-use Rattle.core_turns.specs.Drains.{CanStore, CanDrain}
+use Rattle.core_turns.specs.Drains.{CanStore, CanDrain, store_drained, stores_dropped, drained_if}
 use Rattle.core_turns.specs.MakesTurn.{first_number, drained_by}
 
 -- an address of RAM is not 0
@@ -82,3 +86,41 @@ module _ (bus : BusState) (who : Who) (why : Why) (ps : List Pending) (p : Pendi
   log_longer syn is =
       ap length (store_log bus ok who why p some h.can.in_ram ∙ ap (λ b. bus.log ++ cond b (store_entry who p ∷ []) []) (ap enters_log (sym same_transfer) ∙ enters syn is))
       ∙ length-append bus.log (store_entry who p ∷ [])
+
+-- a store waits, so taking out the first leaves the others
+pub taken_out : (r : Option Pending) (old new : BufferState) (p : Pending) → Some p ≡ slice_get old.waiting 0
+    → IfSome r (λ q. old ≡ record new { waiting = q ∷ new.waiting }) → (IsNone r ↔ (old.waiting ≡ [])) → new ≡ record old { waiting = drop 1 old.waiting }
+taken_out (Some q) old new p front is empty = popped old new q is
+taken_out None old new p front is empty = absurd (no_first old.waiting (empty.0 refl) front)
+  where
+    no_first : (ps : List Pending) → ps ≡ [] → Some p ≡ slice_get ps 0 → ⊥
+    no_first ps none front = let h : Some p ≡ slice_get [] 0 = rw none at front in absurd cc
+
+-- ---- the parts of the core after it
+
+chosen_first : {A : Type 0} (b : Bool) (x y : A) → b ≡ true → (if b then x else y) ≡ x
+chosen_first b x y is = rw is refl
+
+chosen_second : {A : Type 0} (b : Bool) (x y : A) → b ≡ false → (if b then x else y) ≡ y
+chosen_second b x y is = rw is refl
+
+pub parts_lost : (enters : Bool) (old new : Parts) (n : ℕ) → enters ≡ false → first_number old.buffer.waiting ≡ n
+    → new ≡ record old { buffer = record old.buffer { waiting = [] }; «record» = record old.«record» { ops = losing n old.«record».ops } } → new ≡ drained_if enters old
+parts_lost enters old new n lost number is =
+    is
+    ∙ ap (λ n. record old { buffer = record old.buffer { waiting = [] }; «record» = record old.«record» { ops = losing n old.«record».ops } }) (sym number)
+    ∙ sym (chosen_second enters (store_drained old) (stores_dropped old) lost)
+
+pub parts_drained : (enters : Bool) (old : Parts) (buffer : BufferState) (r : RecordState) → enters ≡ true
+    → buffer ≡ record old.buffer { waiting = drop 1 old.buffer.waiting } → r ≡ record old.«record» { seen = old.«record».seen + 1 }
+    → record old { buffer = buffer; «record» = r } ≡ drained_if enters old
+parts_drained enters old buffer r reached left seen =
+    ap (λ b. record old { buffer = b; «record» = r }) left
+    ∙ ap (λ r. record old { buffer = record old.buffer { waiting = drop 1 old.buffer.waiting }; «record» = r }) seen
+    ∙ sym (chosen_first enters (store_drained old) (stores_dropped old) reached)
+
+-- where a store waits, one is found
+pub none_waits : (setup : Setup) (ps : List Pending) (r : Option Pending) → r ≡ None → (IsNone r ↔ (ps ≡ [])) → CanDrain setup ps → ⊥
+none_waits setup [] r none empty can = can
+none_waits setup (p ∷ ps) None none empty can = let e : p ∷ ps ≡ [] = empty.0 refl in absurd cc
+none_waits setup (p ∷ ps) (Some q) none empty can = absurd cc

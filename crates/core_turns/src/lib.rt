@@ -6,7 +6,9 @@
 #![tactic(auto)]
 
 mod fills;
+mod stores;
 mod turn;
 
 pub use fills::{fetch, load};
+pub use stores::drain;
 pub use turn::catch_up;
