@@ -6,3 +6,4 @@ pub mod Answers
 pub mod Needed
 pub mod DrainLemmas
 pub mod RetiredAtomic
+pub mod ExchangeAnswers
