@@ -15,7 +15,6 @@ use Rattle.lf_model.specs.declared.bus.Pending.{Pending}
 use Rattle.lf_model.specs.declared.bus.Transfer.{Transfer}
 use Rattle.lf_model.specs.declared.bus.TurnKind.TheVariants as kinds
 use Rattle.lf_model.specs.declared.bus.Why.TheVariants as whys
-use Rattle.lf_model.specs.declared.step.Did.{Did}
 use Rattle.lf_model.specs.declared.step.Turn.TheVariants.{Atomic}
 use Rattle.ram_words.specs.declared.answer.Got.{Got}
 use Rattle.core_turns.proofs.Answers.{did_by, atomic_answer}
