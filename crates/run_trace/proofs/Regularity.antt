@@ -20,7 +20,7 @@ use Rattle.lf_model.specs.Ledger.Account.{without_length}
 use Rattle.lf_model.specs.Ledger.Steps.{own_transfers}
 use Rattle.lf_model.specs.Once.{HasMaster}
 use Rattle.lf_model.specs.Operation.{of_core, enters, made}
-use Rattle.lf_model.specs.Promise.Regular.{IsRegular, is_regular_core, is_regular_op, steps_fit, turn_of}
+use Rattle.lf_model.specs.Promise.Regular.{IsRegular, is_regular_core, is_regular_op, is_regular_word, steps_fit, turn_of}
 use Rattle.lf_model.specs.Promise.RegularTransfer.{fits_word, is_regular_on_bus, is_regular_transfer}
 use Rattle.lf_model.specs.Records.AllRecords.{watched_word, words_named_by_all}
 use Rattle.lf_model.specs.Records.BusMemory.{memory_after}
@@ -197,8 +197,8 @@ module _ (setup : Setup) (records : List CoreRecord) (bus : BusRecord) (watch : 
 
   -- ---- all of it
 
-  pub regular : fits_word bus.ahb_addr ≡ true → fits_word bus.ahb_status ≡ true → IsRegular reported
-  regular addr_fits status_fits = record {
+  pub regular : fits_word bus.ahb_addr ≡ true → fits_word bus.ahb_status ≡ true → list_all is_regular_word watch ≡ true → IsRegular reported
+  regular addr_fits status_fits words_are_regular = record {
     some_core = omega (arith, cores_count, ok.limits.some_core);
     few_cores = omega (arith, cores_count, ok.limits.few_cores);
     few_steps = few_steps;
@@ -214,5 +214,5 @@ module _ (setup : Setup) (records : List CoreRecord) (bus : BusRecord) (watch : 
     transfers = transfers_fit;
     operations = all_true is_regular_op reported.order
         (each_operation (λ (o : Op). is_regular_op o ≡ true) (λ c kept found. each_true is_regular_op kept.ops (record_kept setup records bus watch ok c kept found).ops_fit));
-    words = ok.fit;
+    words = words_are_regular;
   }

@@ -1,8 +1,6 @@
 -- The trace that is gathered from the records of cores and bus, and from which records it can be.
-use Rattle.std.specs.Prelude.{◌≡◌, ◌≤◌, ◌*◌, true, List, length, map}
-use Rattle.std.specs.List.{list_all}
+use Rattle.std.specs.Prelude.{◌≤◌, ◌*◌, List, length, map}
 use Rattle.lf_model.specs.Ledger.Account.{without_length}
-use Rattle.lf_model.specs.Promise.Regular.{is_regular_word}
 use Rattle.lf_model.specs.Records.AllRecords.{AreRecordsOk}
 use Rattle.lf_model.specs.declared.record.CoreRecord.{CoreRecord}
 use Rattle.lf_model.specs.declared.setup.Setup.{Setup}
@@ -36,8 +34,7 @@ pub record IsWithinLimits (setup : Setup) : Type 0 where
   pub few_flips : length setup.flips ≤ 65536
   pub few_words : length setup.config.watch ≤ 64
 
--- records of a run of this setup, all of them right together; fit: the watched words are numbers of 32 bits, as the code has them
+-- records of a run of this setup, all of them right together
 pub record IsGatherable (setup : Setup) (records : List CoreRecord) (bus : BusRecord) (watch : List Word2) : Type 0 where
   pub limits : IsWithinLimits setup
   pub right : AreRecordsOk setup records bus.log.entries bus.transfers (record { addr = bus.ahb_addr; status = bus.ahb_status }) bus.fates watch
-  pub fit : list_all is_regular_word watch ≡ true
