@@ -1,7 +1,6 @@
 -- The record that the bus leaves is right, as the bus was all along.
-use Rattle.std.proofs.Common.{◌≡◌, ℕ, zero, suc, List, [], ◌∷◌}
-use Rattle.std.specs.Prelude.{IfSome, slice_get}
-use Rattle.std.specs.List.{AllByRecursion}
+use Rattle.std.proofs.Common.{◌≡◌, List}
+use Rattle.lf_model.proofs.EachLemmas.{each_at}
 use Rattle.lf_model.specs.Ledger.FlipFate.{flip_fates}
 use Rattle.lf_model.specs.Records.BusMemory.{memory_after}
 use Rattle.lf_model.specs.Records.BusRecord.{BusRecordOk, no_arrays}
@@ -9,11 +8,6 @@ use Rattle.lf_model.specs.declared.trace.Fate.{Fate}
 use Rattle.lf_model.specs.declared.trace.Word2.{Word2}
 use Rattle.ahb_bus.specs.BusOk.{BusOk, IsOfMaster}
 use Rattle.ahb_bus.specs.BusState.{BusState}
-
-each_at : {X : Type 0} (P : X → Type 0) (xs : List X) (i : ℕ) → AllByRecursion P xs → IfSome (slice_get xs i) P
-each_at P [] i all = tt
-each_at P (x ∷ xs) zero all = all.0
-each_at P (x ∷ xs) (suc i) all = each_at P xs i all.1
 
 pub record_ok : (bus : BusState) (fates : List Fate) (named : List Word2) → BusOk bus → (memory_after bus.setup.flips named bus.transfers).answers ≡ bus.transfers
     → fates ≡ flip_fates bus.setup.flips (memory_after bus.setup.flips named bus.transfers).words no_arrays

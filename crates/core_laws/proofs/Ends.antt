@@ -6,10 +6,9 @@ use Rattle.std.proofs.lemmas.List.{take_at}
 use Rattle.std.specs.List.{AllByRecursion as Each, slice_get}
 use Rattle.core_laws.proofs.LaterGround.{at_same, same_past}
 use Rattle.core_laws.proofs.ListLemmas.{get_behind}
-use Rattle.core_laws.proofs.OthersTurns.{IsOthers, course_later}
 use Rattle.core_laws.proofs.OwnTurns.{up_to_next}
 use Rattle.core_laws.specs.Running.{running, with_later, IsNoStop, IsBefore}
-use Rattle.lf_model.proofs.CourseLemmas.{IsAt, all_stored_at, local_step_counts, local_steps_count, at_local_step, at_own_turn}
+use Rattle.lf_model.proofs.CourseLemmas.{IsAt, all_stored_at, local_step_counts, local_steps_count, at_local_step, at_own_turn, IsOthers, course_later}
 use Rattle.lf_model.specs.Course.Attempt.{attempt}
 use Rattle.lf_model.specs.Course.Arrays.{begun}
 use Rattle.lf_model.specs.Course.Core.{Given, Ground, ground_of, is_register_stop, is_stop_at}

@@ -2,8 +2,7 @@
 use Rattle.std.proofs.Common.{◌+◌, ◌-◌, ◌≤◌, ◌==◌, ℕ, zero, suc, Bool, true, false, not, List, [], ◌∷◌, Option, Some, None, length, fold, sym, subst, arith, inl, inr, if◌then◌else◌}
 use Rattle.std.proofs.lemmas.Bool.{cases_Bool}
 use Rattle.core_laws.proofs.ListLemmas.{count_append}
-use Rattle.core_laws.proofs.OthersTurns.{observe_others}
-use Rattle.lf_model.proofs.CourseLemmas.{observe_own}
+use Rattle.lf_model.proofs.CourseLemmas.{observe_own, observe_others}
 use Rattle.lf_model.specs.Course.Core.{Ground}
 use Rattle.lf_model.specs.Course.Course.{up_to, observe}
 use Rattle.lf_model.specs.Course.LocalStep.{is_last_stop, local_step, local_steps}

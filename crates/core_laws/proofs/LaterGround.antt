@@ -6,9 +6,8 @@ use Rattle.std.proofs.lemmas.List.{get_or_append_left}
 use Rattle.std.specs.List.{AllByRecursion as Each}
 use Rattle.core_laws.proofs.Growing.{Grows, grows_local_steps, grows_own_turn, grows_transfers}
 use Rattle.core_laws.proofs.ListLemmas.{count_append}
-use Rattle.core_laws.proofs.OthersTurns.{observe_others}
 use Rattle.core_laws.specs.Running.{running, with_later, IsNoStop, IsBefore}
-use Rattle.lf_model.proofs.CourseLemmas.{IsAt, observe_own}
+use Rattle.lf_model.proofs.CourseLemmas.{IsAt, observe_own, observe_others}
 use Rattle.lf_model.specs.Course.Core.{Given, Ground, ground_of, is_register_stop, is_stop_at}
 use Rattle.lf_model.specs.Course.Course.{up_to, observe, course}
 use Rattle.lf_model.specs.Course.LocalStep.{local_step, local_steps}

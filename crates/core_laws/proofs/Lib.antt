@@ -1,5 +1,4 @@
 pub mod ListLemmas
-pub mod OthersTurns
 pub mod Growing
 pub mod LaterGround
 pub mod OwnTurns

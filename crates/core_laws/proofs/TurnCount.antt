@@ -1,8 +1,7 @@
 -- A core has made as many turns as transfers on the bus are its own.
 use Rattle.std.proofs.Common.{◌≡◌, ◌∙◌, ◌+◌, ◌-◌, ◌==◌, ℕ, zero, suc, Bool, true, false, List, [], ◌∷◌, length, fold, refl, ap, sym, arith, inl, inr}
 use Rattle.std.proofs.lemmas.Bool.{cases_Bool, eqb-true, eq-eqb, eqb-false, ne_eqb}
-use Rattle.core_laws.proofs.OthersTurns.{observe_others}
-use Rattle.lf_model.proofs.CourseLemmas.{IsAt, observe_own}
+use Rattle.lf_model.proofs.CourseLemmas.{IsAt, observe_own, observe_others}
 use Rattle.lf_model.specs.Course.Core.{Ground}
 use Rattle.lf_model.specs.Course.Course.{up_to, observe, course}
 use Rattle.lf_model.specs.Course.LocalStep.{local_step, local_steps}

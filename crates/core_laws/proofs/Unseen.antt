@@ -7,9 +7,8 @@ use Rattle.std.proofs.lemmas.List.{append_assoc, append-nil, length-append, drop
 use Rattle.std.proofs.lemmas.Simd.{map-map}
 use Rattle.std.specs.Int.{from_bool}
 use Rattle.std.specs.List.{flat_map, list_all}
-use Rattle.core_laws.proofs.OthersTurns.{observe_others}
 use Rattle.lf_model.proofs.BusLemmas.{successful-enters}
-use Rattle.lf_model.proofs.CourseLemmas.{IsAt, observe_own}
+use Rattle.lf_model.proofs.CourseLemmas.{IsAt, observe_own, observe_others}
 use Rattle.lf_model.specs.Course.Core.{Ground}
 use Rattle.lf_model.specs.Course.Course.{stored_at, others_turn, up_to, observe, course}
 use Rattle.lf_model.specs.Course.LocalStep.{local_step, local_steps}

@@ -1,6 +1,7 @@
 ghost use Rattle.std.specs.Prelude.{◌≡◌, ◌<◌, IfOk};
 ghost use Rattle.core_parts.specs.Reset.{reset_registers};
-ghost use Rattle.parity_cache.specs.CacheState.{IsCacheShape, reset_cache};
+ghost use Rattle.lf_model.specs.Caches.Cache.{IsCacheShape};
+ghost use Rattle.parity_cache.specs.CacheState.{reset_cache};
 
 use ft_regfile::{CELL_COUNT, RegFile};
 use lf_model::config::Config;

@@ -3,7 +3,7 @@ ghost use Rattle.core_laws.specs.SeenSoFar.{losing};
 ghost use Rattle.core_parts.specs.Strikes.{arrays_of, with_arrays, own_flips};
 ghost use Rattle.flip_ledger.specs.Plan.{IsPlanned};
 ghost use Rattle.lf_model.specs.Course.Arrays.{begun};
-ghost use Rattle.parity_cache.specs.CacheState.{IsCacheShape};
+ghost use Rattle.lf_model.specs.Caches.Cache.{IsCacheShape};
 ghost use Rattle.store_buffer.specs.BufferState.{BufferState};
 
 use crate::arrays::Arrays;

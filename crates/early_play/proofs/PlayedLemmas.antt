@@ -58,7 +58,7 @@ use Rattle.early_play.specs.Played.{IsPlayed}
 use Rattle.early_play.proofs.OneCore.{load_op, store_store, once_order, once_cores, value, program_order_is, answers_are, and_false}
 use Rattle.early_play.proofs.TurnLemmas.{slice_get_seam}
 use Rattle.early_play.proofs.TraceLemmas.{NoStops, told_all, Splits, splits, short_rest, left_short, entered_kept, each_told, each_mapped, ascending_mapped, if_mapped, loads_mapped, all_in_steps, tries_bounded}
-use Rattle.early_play.proofs.ToldLemmas.{fates_told}
+use Rattle.early_play.proofs.ToldLemmas.{fates_shown}
 use Rattle.early_play.proofs.UseLemmas.{retired_same, uses_same}
 use Rattle.early_play.proofs.BlankLemmas.{HasTrace, fills_mapped, register_at, blanks, TellsRegister, register_told, register_stops, AreFates, fates_of_trace}
 
@@ -422,7 +422,7 @@ played_trace setup steps end arch seen bad x order ts fates bus_fates no_words h
         once_cores = of_one setup.config.cores (OnceAtCore order) h.one (once_cores order h.numbers 0 (lit< tt));
         once_order = subst (λ (n : ℕ). FailsNowhereIn (OnceAtOrder n) order) (sym h.one) (once_order order h.numbers);
         once_transfers = once_transfers setup ts h.one h.transfers;
-        once_final = record { cores_told = sym h.one; fates_told = its_fates.count; words_told = sym no_words };
+        once_final = record { cores_shown = sym h.one; fates_shown = its_fates.count; words_shown = sym no_words };
         load_op = load_op order h.numbers;
         store_store = store_store order h.numbers;
         thread = of_one setup.config.cores (ThreadAt setup trace) h.one thread;
@@ -511,7 +511,7 @@ played setup ending m r transfers named bus_fates fates trace playable h cells r
       script = last.struck.script;
       core = last.struck.core;
       count = told.registers.count;
-      words = fates_told setup.flips m.bus.transfers h.told bus_fates setup.config.ram playable.aims h.bus.same h.bus.histories its_fates;
+      words = fates_shown setup.flips m.bus.transfers h.told bus_fates setup.config.ram playable.aims h.bus.same h.bus.histories its_fates;
       others = told.registers.others;
       own = told.outcomes histories last.follows;
     } in

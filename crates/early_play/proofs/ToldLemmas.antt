@@ -85,9 +85,9 @@ told_flip script ts told ram i (Reg core step cell bit) fate aims long same h = 
 told_flip script ts told ram i (Tag core step fetch way set byte bit) fate aims long same h = h
 told_flip script ts told ram i (Line core step fetch way set byte bit) fate aims long same h = h
 
-pub fates_told : (script : List Flip) (ts told : List Transfer) (fates : List Fate) (ram : ℕ) → All (AimsInRam ram) script → map without_length told ≡ map without_length ts
+pub fates_shown : (script : List Flip) (ts told : List Transfer) (fates : List Fate) (ram : ℕ) → All (AimsInRam ram) script → map without_length told ≡ map without_length ts
     → ((word : ℕ) → word % 4 ≡ 0 → history script [] word told ≡ history script [] word ts) → TellsFates script ts fates → TellsFates script told fates
-fates_told script ts told fates ram aims listed same h = record {
+fates_shown script ts told fates ram aims listed same h = record {
   count = h.count;
   each = λ i. by_flip i (slice_get script i) refl (h.each i);
 }

@@ -13,7 +13,7 @@ use Rattle.lf_model.specs.Start.{initial_byte}
 use Rattle.lf_model.specs.State.{reset}
 use Rattle.lf_model.specs.declared.setup.Setup.{Setup}
 use Rattle.parity_cache.proofs.Bytes.{formed_reset, holds_reset}
-use Rattle.parity_cache.specs.CacheState.{IsCacheShape}
+use Rattle.lf_model.specs.Caches.Cache.{IsCacheShape}
 
 -- ---- the core
 

@@ -4,12 +4,11 @@ use Rattle.std.proofs.lemmas.Bool.{cases_lt, eq-eqb}
 use Rattle.std.proofs.lemmas.List.{length-append}
 use Rattle.std.specs.List.{AllByRecursion as Each, flat_map}
 use Rattle.core_laws.proofs.ListLemmas.{get_second, each_get}
-use Rattle.core_laws.proofs.OthersTurns.{IsOthers, course_later}
 use Rattle.core_laws.proofs.OwnTurns.{own_turn_at_longer, own_turn_at_made}
 use Rattle.core_laws.proofs.Runs.{run_own_turn}
 use Rattle.core_parts.specs.Seat.{seat}
 use Rattle.leon_core.proofs.LaterSeat.{Reaches, at_seat}
-use Rattle.lf_model.proofs.CourseLemmas.{IsAt, at_own_turn}
+use Rattle.lf_model.proofs.CourseLemmas.{IsAt, at_own_turn, IsOthers, course_later}
 use Rattle.lf_model.specs.Course.Core.{Ground}
 use Rattle.lf_model.specs.Course.Course.{stored_at, with_unseen, course}
 use Rattle.lf_model.specs.Course.LocalStep.{local_step, local_steps}

@@ -13,7 +13,7 @@ use Rattle.lf_model.specs.declared.bus.Transfer.{Transfer}
 
 module _ (g : Ground) where
   -- the transfer is another's
-  pub IsOthers : Transfer → Type 0
+  abbrev pub IsOthers : Transfer → Type 0
   IsOthers t = (g.core == t.master) ≡ false
 
   -- ---- local steps, and transfers of others
@@ -42,7 +42,7 @@ module _ (g : Ground) where
   -- ---- what the core makes of a transfer
 
   pub observe_others : (t : Transfer) (k : Progress) → IsOthers t → observe g k t ≡ others_turn t k
-  unfolding observe IsOthers
+  unfolding observe
   observe_others t k other = rw other refl
 
   pub observe_own : (t : Transfer) (k : Progress) → (g.core == t.master) ≡ true → observe g k t ≡ own_turn g t (up_to g t k)

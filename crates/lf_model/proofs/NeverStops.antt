@@ -28,7 +28,7 @@ use Rattle.lf_model.specs.declared.trace.CoreEnd.{CoreEnd}
 use Rattle.lf_model.specs.declared.trace.CoreEnd.TheVariants.{Halt, Stop, Limit}
 use Rattle.lf_model.specs.declared.trace.CoreResult.{CoreResult}
 use Rattle.lf_model.specs.declared.trace.Trace.{Trace}
-use Rattle.lf_model.proofs.EachLemmas.{each_append}
+use Rattle.lf_model.proofs.EachLemmas.{each_at, each_append}
 use Rattle.lf_model.proofs.GoodCells.{Good as GoodCells}
 use Rattle.lf_model.proofs.GoodCourse.{IsClean, no_error_traps}
 use Rattle.lf_model.proofs.GoodWords.{Good as GoodWords, good_begun, good_after, answers_clean}
@@ -129,11 +129,6 @@ no_stop (Stop tt_ place syn) steps turns e = absurd (none_is_one e)
     none_is_one : [] ≡ errors_reported (Stop tt_ place syn) steps turns → ⊥
     none_is_one e = cc
 no_stop Limit steps turns e = refl
-
-each_at : {X : Type 0} (P : X → Type 0) (xs : List X) (i : ℕ) → Each P xs → IfSome (slice_get xs i) P
-each_at P [] i h = tt
-each_at P (x ∷ xs) zero h = h.0
-each_at P (x ∷ xs) (suc i) h = each_at P xs i h.1
 
 -- a numbered list has an element where the list has one
 has_element : {X Y : Type 0} (f : ℕ → X → Y) (n : ℕ) (xs : List X) (i : ℕ)

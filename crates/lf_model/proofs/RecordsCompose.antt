@@ -47,7 +47,7 @@ module _ (setup : Setup) (grounds : List Ground) (named : List Word2) where
   words_at ts = words_begun setup.flips (length ts) (memory_after setup.flips named ts).words
 
   -- the transfer after these names this word, or none
-  pub IsNamed : List Transfer → Option ℕ → Type 0
+  abbrev pub IsNamed : List Transfer → Option ℕ → Type 0
   IsNamed pre name = (addr : ℕ) → names_word named (length pre) addr ≡ is_name name addr
 
   -- a transfer after these is right, as its master's record says: of the scrubber the next of its walk, which has turns left, at
@@ -165,7 +165,6 @@ module _ (setup : Setup) (grounds : List Ground) (named : List Word2) where
       ∙ ap (λ turns. map (with_names named turns) (words_after t None (words_begun setup.flips turns (memory_after setup.flips named pre).words))) (turns_after pre)
 
   name_given : (pre : List Transfer) (name : Option ℕ) → IsNamed pre name → (word : Word) → with_names named (length pre) word ≡ with_name name word
-  unfolding IsNamed
   name_given pre None is word = rw (is word.addr) refl
   name_given pre (Some a) is word = rw (is word.addr) refl
 

@@ -10,11 +10,11 @@ use Rattle.lf_model.specs.declared.setup.Setup.{Setup}
 use Rattle.lf_model.specs.declared.trace.CoreResult.{CoreResult}
 use Rattle.lf_model.specs.declared.trace.Trace.{Trace}
 
--- the 32 registers of a window are told, each with no value exactly where its cell is bad at the end; register 0 always has one
+-- each of the 32 registers of a window is shown, with no value exactly where its cell is bad at the end; register 0 always has one
 pub record HasBlanks (setup : Setup) (trace : Trace) (c : ℕ) (r : CoreResult) (window : ℕ) : Type 0 where
   pub all : length r.regs ≡ 32
-  pub each : (n : ℕ) → n < 32 → IsSomeAnd (slice_get r.regs n) (λ told.
-      is_none told ≡ (not (n == 0) && is_bad_word (cell_at_end setup trace c r (cell window n))))
+  pub each : (n : ℕ) → n < 32 → IsSomeAnd (slice_get r.regs n) (λ shown.
+      is_none shown ≡ (not (n == 0) && is_bad_word (cell_at_end setup trace c r (cell window n))))
 
 -- of core c, in the window that its run ends in
 abbrev pub BlankAt : Setup → Trace → ℕ → Type 0

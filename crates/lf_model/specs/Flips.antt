@@ -15,7 +15,7 @@ pub data How : Type 0 where
   ByFix : How
   ByReadBack : How
 
--- what happens to a unit: a flip of the script, told by its number, strikes a bit of it; it is written; a check finds it
+-- what happens to a unit: a flip of the script, named by its number, strikes a bit of it; it is written; a check finds it
 -- struck and drops its line; an error trap names it
 pub data Moment : Type 0 where
   Struck : (number bit : ℕ) → Moment

@@ -39,6 +39,6 @@ address_of word = word.addr
 
 -- the trace has the setup's cores, flips and watched words
 pub record OnceAtFinal (setup : Setup) (trace : Trace) : Type 0 where
-  pub cores_told : length trace.cores ≡ setup.config.cores
-  pub fates_told : length trace.fates ≡ length setup.flips
-  pub words_told : map address_of trace.watch ≡ setup.config.watch
+  pub cores_shown : length trace.cores ≡ setup.config.cores
+  pub fates_shown : length trace.fates ≡ length setup.flips
+  pub words_shown : map address_of trace.watch ≡ setup.config.watch

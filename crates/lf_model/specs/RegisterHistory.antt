@@ -48,7 +48,7 @@ after_writes cells histories c = with_write (if has_cell cells c then Some Whole
 abbrev pub after_use : CellUse → (ℕ → List Moment) → ℕ → List Moment
 after_use used histories = after_writes used.writes (after_reads used.reads histories)
 
--- the histories of a core's cells after its steps, of each of which the use of cells is told, the last step first
+-- the histories of a core's cells after its steps, each with its use of cells, the last step first
 abbrev pub cell_histories : List Flip → ℕ → List CellUse → ℕ → List Moment
 cell_histories script core [] c = []
 cell_histories script core (used ∷ earlier) c = after_use used (begun_cells script core (length earlier) (cell_histories script core earlier)) c

@@ -47,9 +47,9 @@ is_lost_by c o = of_core c o && is_lost o
 abbrev pub is_in_steps : ℕ → ℕ → Transfer → Bool
 is_in_steps c steps t = t.master == c && nat_lt t.step steps
 
--- each printed register that is told is that of the current window
+-- each printed register that has a value is that of the current window
 abbrev pub ShowsRegisters : State → List (Option ℕ) → Type 0
-ShowsRegisters s regs = (n : ℕ) → n < 32 → IfSome (slice_get regs n) (λ told. IfSome told (λ value. value ≡ register s n))
+ShowsRegisters s regs = (n : ℕ) → n < 32 → IfSome (slice_get regs n) (λ shown. IfSome shown (λ value. value ≡ register s n))
 
 -- the result of core c shows the state that the core's run has after its instructions
 pub record Shows (setup : Setup) (trace : Trace) (c : ℕ) (r : CoreResult) (s : State) : Type 0 where
@@ -76,7 +76,7 @@ ResultAt setup trace c = IfSome (slice_get trace.cores c) (λ r.
 abbrev pub final_byte : Setup → Trace → ℕ → ℕ
 final_byte setup trace a = stored a (map made (filter enters trace.order)) (initial_byte setup.image a)
 
--- Result, of a watched word: if it is told, it is the word of memory at the end
+-- Result, of a watched word: if it has a value, it is the word of memory at the end
 abbrev pub ShowsWord : Setup → Trace → Word2 → Type 0
 ShowsWord setup trace word = IfSome word.value (λ value. value ≡ number_at (final_byte setup trace) word.addr 4)
 

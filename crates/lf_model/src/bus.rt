@@ -20,7 +20,7 @@ pub enum TurnKind {
 /// Why a core makes a transfer, or a look-up of a cache misses.
 #[derive(Clone, Copy, Debug, PartialEq, Eq)]
 pub enum Why {
-    /// No cause is told: a transfer of the scrubber, or an atomic.
+    /// No cause: a transfer of the scrubber, or an atomic.
     None,
     /// Miss: no line matches.
     Absent,

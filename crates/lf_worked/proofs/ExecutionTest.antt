@@ -139,9 +139,9 @@ once_final-sound setup trace passes =
     let cores = and_parts (length trace.cores == setup.config.cores) _ passes in
     let fates = and_parts (length trace.fates == length setup.flips) _ cores.1 in
     record {
-      cores_told = eqb-true _ _ cores.0;
-      fates_told = eqb-true _ _ fates.0;
-      words_told = is_same_numbers _ _ fates.1;
+      cores_shown = eqb-true _ _ cores.0;
+      fates_shown = eqb-true _ _ fates.0;
+      words_shown = is_same_numbers _ _ fates.1;
     }
 
 -- ---- Thread

@@ -105,30 +105,30 @@ unfolding machine stop_at_load_setup type_of_a_stop
 type_of_a_stop_refused h = differ (error_type 0) 0x09 0x01 refl refl refl h.same
 
 -- a lost store reported as one that reached memory
-unfoldable lost_told_as_stored : Trace
+unfoldable lost_shown_as_stored : Trace
 unfolding lost_byte_store_trace
-lost_told_as_stored = with_operation 2 (store 0 1 6 0x40001000 1 0x77) lost_byte_store_trace
+lost_shown_as_stored = with_operation 2 (store 0 1 6 0x40001000 1 0x77) lost_byte_store_trace
 
-lost_told_as_stored_text : report lost_told_as_stored ≡ text_lines (with_line 19 "S 0 1 6 40001000 77" lost_byte_store_lines)
-unfolding machine lost_told_as_stored lost_byte_store_lines
-lost_told_as_stored_text = refl
+lost_shown_as_stored_text : report lost_shown_as_stored ≡ text_lines (with_line 19 "S 0 1 6 40001000 77" lost_byte_store_lines)
+unfolding machine lost_shown_as_stored lost_byte_store_lines
+lost_shown_as_stored_text = refl
 
-lost_told_as_stored_refused : KeepsLedger lost_byte_store_setup lost_told_as_stored → ⊥
-unfolding machine lost_byte_store_setup lost_told_as_stored
-lost_told_as_stored_refused h = differ (lost_count 0) 1 0 refl refl refl h.same
+lost_shown_as_stored_refused : KeepsLedger lost_byte_store_setup lost_shown_as_stored → ⊥
+unfolding machine lost_byte_store_setup lost_shown_as_stored
+lost_shown_as_stored_refused h = differ (lost_count 0) 1 0 refl refl refl h.same
 
 -- a store that reached memory reported as lost
-unfoldable stored_told_as_lost : Trace
+unfoldable stored_shown_as_lost : Trace
 unfolding store_buffering_trace
-stored_told_as_lost = with_operation 4 (lost 0 1 7 0x40001000 4 0x00000001) store_buffering_trace
+stored_shown_as_lost = with_operation 4 (lost 0 1 7 0x40001000 4 0x00000001) store_buffering_trace
 
-stored_told_as_lost_text : report stored_told_as_lost ≡ text_lines (with_line 32 "X 0 1 7 40001000 00000001" store_buffering_lines)
-unfolding machine stored_told_as_lost store_buffering_lines
-stored_told_as_lost_text = refl
+stored_shown_as_lost_text : report stored_shown_as_lost ≡ text_lines (with_line 32 "X 0 1 7 40001000 00000001" store_buffering_lines)
+unfolding machine stored_shown_as_lost store_buffering_lines
+stored_shown_as_lost_text = refl
 
-stored_told_as_lost_refused : KeepsLedger store_buffering_setup stored_told_as_lost → ⊥
-unfolding machine store_buffering_setup stored_told_as_lost
-stored_told_as_lost_refused h = differ (lost_count 0) 0 1 refl refl refl h.same
+stored_shown_as_lost_refused : KeepsLedger store_buffering_setup stored_shown_as_lost → ⊥
+unfolding machine store_buffering_setup stored_shown_as_lost
+stored_shown_as_lost_refused h = differ (lost_count 0) 0 1 refl refl refl h.same
 
 -- the counter of data tags
 unfoldable tag_counter : Trace

@@ -100,7 +100,7 @@ fate_left_out_text = refl
 
 fate_left_out_refused : IsTsoExecution same_bit_twice_setup fate_left_out → ⊥
 unfolding machine same_bit_twice_setup fate_left_out
-fate_left_out_refused h = apart 1 2 refl h.once_final.fates_told
+fate_left_out_refused h = apart 1 2 refl h.once_final.fates_shown
 
 -- Once: another word than the one that is watched
 unfoldable other_word_watched : Trace
@@ -113,7 +113,7 @@ other_word_watched_text = refl
 
 other_word_watched_refused : IsTsoExecution scrubbed_word_setup other_word_watched → ⊥
 unfolding machine scrubbed_word_setup other_word_watched
-other_word_watched_refused h = differ first_number 0x40001004 0x40001000 refl refl refl h.once_final.words_told
+other_word_watched_refused h = differ first_number 0x40001004 0x40001000 refl refl refl h.once_final.words_shown
 
 -- Once: no core of one
 unfoldable core_left_out : Trace
@@ -126,7 +126,7 @@ core_left_out_text = refl
 
 core_left_out_refused : IsTsoExecution byte_out_setup core_left_out → ⊥
 unfolding machine byte_out_setup core_left_out
-core_left_out_refused h = apart 0 1 refl h.once_final.cores_told
+core_left_out_refused h = apart 0 1 refl h.once_final.cores_shown
 
 -- LoadOp: a load after one that the program makes after it
 unfoldable loads_out_of_order : Trace

@@ -75,17 +75,17 @@ unfolding machine struck_line_setup miss_by_word
 miss_by_word_refused h = differ (cause_needed 2) 5 3 refl refl refl h.same
 
 -- a drain of a full buffer reported by another cause
-unfoldable full_told_as_miss : Trace
+unfoldable full_shown_as_miss : Trace
 unfolding full_buffer_trace
-full_told_as_miss = with_transfer 1 (transfer 1 0 4 kinds.Store whys.Miss 0x40001000 0 0 0) full_buffer_trace
+full_shown_as_miss = with_transfer 1 (transfer 1 0 4 kinds.Store whys.Miss 0x40001000 0 0 0) full_buffer_trace
 
-full_told_as_miss_text : report full_told_as_miss ≡ text_lines (with_line 14 "t 1 0 4 store miss 40001000 - --" full_buffer_lines)
-unfolding machine full_told_as_miss full_buffer_lines
-full_told_as_miss_text = refl
+full_shown_as_miss_text : report full_shown_as_miss ≡ text_lines (with_line 14 "t 1 0 4 store miss 40001000 - --" full_buffer_lines)
+unfolding machine full_shown_as_miss full_buffer_lines
+full_shown_as_miss_text = refl
 
-full_told_as_miss_refused : KeepsLedger full_buffer_setup full_told_as_miss → ⊥
-unfolding machine full_buffer_setup full_told_as_miss
-full_told_as_miss_refused h = differ (cause_needed 1) 6 7 refl refl refl h.same
+full_shown_as_miss_refused : KeepsLedger full_buffer_setup full_shown_as_miss → ⊥
+unfolding machine full_buffer_setup full_shown_as_miss
+full_shown_as_miss_refused h = differ (cause_needed 1) 6 7 refl refl refl h.same
 
 -- a snoop where a store waits
 unfoldable snoop_with_a_store : Trace

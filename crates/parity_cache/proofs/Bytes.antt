@@ -6,7 +6,7 @@ use Rattle.std.proofs.lemmas.List.{get_or-replicate, length-replicate}
 use Rattle.lf_model.proofs.HitLemmas.{both}
 use Rattle.lf_model.proofs.TagLemmas.{tag_empty}
 use Rattle.lf_model.proofs.ResidenceLaw.{has_tag}
-use Rattle.lf_model.specs.Caches.Cache.{Cache, slot_at}
+use Rattle.lf_model.specs.Caches.Cache.{Cache, slot_at, IsCacheShape}
 use Rattle.lf_model.specs.Caches.Slot.{empty_slot, holds}
 use Rattle.lf_model.specs.Course.Arrays.{Arrays, with_cache as with_cache_of, struck_tag, struck_line, strike, begun}
 use Rattle.lf_model.specs.Course.Touches.{touched}
@@ -20,7 +20,7 @@ use Rattle.lf_model.specs.declared.touch.Touch.{Touch}
 use Rattle.lf_model.specs.declared.touch.Touch.TheVariants.{StartStep, LookFetch, ReadCell, WriteCell, LookData, StoreData, FlushCaches, SnoopData, FillFetch, FillData}
 use Rattle.parity_slots.specs.SlotState.{IsAccess}
 use Rattle.parity_slots.proofs.AccessLemmas.{lies}
-use Rattle.parity_cache.specs.CacheState.{CacheState, IsCacheShape, reset_cache, stored_cache}
+use Rattle.parity_cache.specs.CacheState.{CacheState, reset_cache, stored_cache}
 use Rattle.parity_cache.specs.Resident.{Holds, IsWellFormed}
 use Rattle.parity_cache.proofs.LessResident.{IsLess, less_as, less_then, less_look, less_flushed, less_snooped, less_struck_tag, less_struck_line}
 use Rattle.parity_cache.proofs.OwnStore.{holds_stored}

@@ -3,7 +3,7 @@ use Rattle.std.proofs.Common.{◌≡◌, ℕ, ◌-◌, ◌%◌, ◌^◌, true, f
 use Rattle.std.specs.Int.Bits.{bit_and}
 use Rattle.std.proofs.lemmas.Bool.{or_cases, eqb-true}
 use Rattle.std.proofs.lemmas.Nat.{and_mask}
-use Rattle.parity_cache.specs.CacheState.{is_number_of_sets}
+use Rattle.lf_model.specs.Caches.Cache.{is_number_of_sets}
 
 module _ (n sets : ℕ) where
   power : (k : ℕ) → nat_eq sets (2 ^ k) ≡ true → bit_and n (sets - 1) ≡ n % sets

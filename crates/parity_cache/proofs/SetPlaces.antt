@@ -6,9 +6,8 @@ use Rattle.std.proofs.lemmas.Bool.{cases_Bool, or_cases, eqb-true}
 use Rattle.std.proofs.lemmas.List.FromFn.{length-range_with_len, get_or-range_with_len}
 use Rattle.lf_model.proofs.HitLemmas.{true_not_false, both, find_one, find_passes}
 use Rattle.lf_model.proofs.LineLemmas.{among, is_among, same_line, same_set}
-use Rattle.lf_model.specs.Caches.Cache.{Cache, slot_at, set_of, matching}
+use Rattle.lf_model.specs.Caches.Cache.{Cache, slot_at, set_of, matching, is_number_of_sets}
 use Rattle.lf_model.specs.Caches.Slot.{Slot, holds, is_present}
-use Rattle.parity_cache.specs.CacheState.{is_number_of_sets}
 use Rattle.parity_cache.specs.Resident.{IsApart}
 
 -- ---- shapes

@@ -1,6 +1,5 @@
 -- A cache with the bytes of its lines.
-use Rattle.std.specs.Prelude.{◌≡◌, ℕ, ◌+◌, ◌*◌, ◌/◌, ◌%◌, ◌<◌, ◌≤◌, ◌==◌, Bool, true, false, List, [], ◌∷◌, Option, Some, None, not, find, fold, unwrap_or, replicate, slice_index_or, slice_set}
-use Rattle.std.specs.List.{list_any}
+use Rattle.std.specs.Prelude.{◌≡◌, ℕ, ◌+◌, ◌*◌, ◌/◌, ◌%◌, ◌<◌, false, List, [], Option, Some, None, not, find, fold, unwrap_or, replicate, slice_index_or, slice_set}
 use Rattle.std.specs.Option.{option_or}
 use Rattle.lf_model.specs.Caches.Cache.{Cache, empty_cache, slot_at, with_slot, set_of, matching, way_of, used}
 use Rattle.lf_model.specs.Caches.Change.{stored_bytes, update_by, updated, older, victim, filled}
@@ -17,16 +16,6 @@ pub record CacheState : Type 0 where
   pub cache : Cache
   pub lines : List (List ℕ)
   pub flips : ℕ
-
--- the sets that each way of a cache may have
-abbrev pub is_number_of_sets : ℕ → Bool
-is_number_of_sets n = list_any (λ sets. n == sets) (8 ∷ 16 ∷ 32 ∷ 64 ∷ 128 ∷ 256 ∷ [])
-
--- one to four ways of 8 to 256 sets
-pub record IsCacheShape (shape : Shape) : Type 0 where
-  pub some_way : 1 ≤ shape.ways
-  pub few_ways : shape.ways ≤ 4
-  pub sets : is_number_of_sets shape.sets ≡ true
 
 abbrev pub reset_cache : Shape → ℕ → CacheState
 reset_cache shape flips = record { cache = empty_cache shape; lines = replicate (shape.ways * shape.sets) (replicate 32 0); flips = flips }

@@ -1,7 +1,8 @@
 -- How a cache is kept.
 use Rattle.std.specs.Prelude.{◌≡◌, ℕ, ◌*◌, ◌/◌, ◌≤◌, Bool, true, false, List, length, slice_index_or}
 use Rattle.lf_model.specs.Caches.Slot.{Slot, empty_slot, has_struck_tag}
-use Rattle.parity_cache.specs.CacheState.{CacheState, IsCacheShape}
+use Rattle.lf_model.specs.Caches.Cache.{IsCacheShape}
+use Rattle.parity_cache.specs.CacheState.{CacheState}
 use Rattle.parity_cache.specs.declared.cache.ParityCache.TheInside.{Inside}
 
 abbrev pub seen : Inside → CacheState

@@ -1,9 +1,9 @@
 -- Which bytes of the lines of a cache are resident, and what they are.
 use Rattle.std.specs.Prelude.{ℕ, ◌≡◌, ◌*◌, ◌/◌, ◌%◌, ◌<◌, true, false, length, slice_index, Contains}
-use Rattle.lf_model.specs.Caches.Cache.{Cache, slot_at, set_of}
+use Rattle.lf_model.specs.Caches.Cache.{Cache, slot_at, set_of, IsCacheShape}
 use Rattle.lf_model.specs.Caches.Slot.{history_at, holds, is_valid_word, has_struck_tag}
 use Rattle.lf_model.specs.Flips.{is_struck_byte}
-use Rattle.parity_cache.specs.CacheState.{CacheState, IsCacheShape, line_at}
+use Rattle.parity_cache.specs.CacheState.{CacheState, line_at}
 
 -- in this slot the byte at an address is resident: the line is present, its word is valid, and neither the tag nor the byte is
 -- struck

@@ -1,13 +1,13 @@
 ghost use Rattle.std.specs.Prelude.{◌≡◌, ◌+◌, ◌*◌, ◌/◌, ◌%◌, ◌^◌, ◌<◌, ◌≤◌, ◌==◌, true, false, not, ℕ, Some, None, fold, find, length, if◌then◌else◌, IfOk, IfSome};
 ghost use Rattle.flip_ledger.specs.Follows.{has_struck};
-ghost use Rattle.lf_model.specs.Caches.Cache.{Cache, slot_at, with_slot, set_of, matching, way_of, raised, used};
+ghost use Rattle.lf_model.specs.Caches.Cache.{Cache, slot_at, with_slot, set_of, matching, way_of, raised, used, IsCacheShape};
 ghost use Rattle.lf_model.specs.Caches.Change.{older, victim, snooped, flushed};
 ghost use Rattle.lf_model.specs.Caches.Look.{check_way, checked, look, look_in};
 ghost use Rattle.lf_model.specs.Caches.Slot.{holds, is_present, has_struck_tag, dropped};
 ghost use Rattle.lf_model.specs.Fates.{fate_of};
 ghost use Rattle.lf_model.specs.Flips.{byte_budget};
 ghost use Rattle.lf_model.specs.declared.trace.Fate.TheVariants.{Late};
-ghost use Rattle.parity_cache.specs.CacheState.{IsCacheShape, reset_cache, with_cache, answer_of, filled_in, filled_cache, stored_by, stored_cache, victim_by, IsCleanSet};
+ghost use Rattle.parity_cache.specs.CacheState.{reset_cache, with_cache, answer_of, filled_in, filled_cache, stored_by, stored_cache, victim_by, IsCleanSet};
 ghost use Rattle.parity_cache.specs.CacheUnits.{IsUnit, slot_of_unit, history_of_unit, struck_at, IsToCome};
 ghost use Rattle.parity_cache.specs.declared.unit.Unit.{Unit};
 ghost use Rattle.parity_cache.specs.Keeps.{Keeps, FitsIn, StaysClean};

@@ -1,8 +1,8 @@
 -- The table of the keys of a configuration, which is a TOML document. Each key is optional.
 use Rattle.std.specs.Prelude.{ℕ, ◌≡◌, ◌<◌, ◌≤◌, ◌*◌, ◌%◌, Bool, true, ◌==◌, ◌&&◌, nat_lt, nat_le, List, [], ◌∷◌, codes}
-use Rattle.std.specs.List.{list_any, before_first, after_first}
+use Rattle.std.specs.List.{before_first, after_first}
+use Rattle.lf_model.specs.Caches.Cache.{IsCacheShape, is_number_of_sets}
 use Rattle.lf_model.specs.declared.config.Config.{Config}
-use Rattle.lf_model.specs.declared.config.Shape.{Shape}
 use Rattle.lf_model.specs.Start.{ram_first, is_in_ram}
 use Rattle.run_texts.specs.declared.keys.Key.{Key}
 use Rattle.run_texts.specs.declared.keys.Key.TheVariants.{Cores, Ram, Steps, Window, Buffer, Watch, FetchWays, FetchSets, LoadWays, LoadSets, ScrubFirst, ScrubLength, ScrubTurns}
@@ -23,10 +23,6 @@ at_path path kind is_in_range = record { path = path; kind = kind; is_in_range =
 -- the number is one of those from the least to the most
 abbrev pub is_between : ℕ → ℕ → ℕ → Bool
 is_between least most n = nat_le least n && nat_le n most
-
--- the sets that each way of a cache may have
-abbrev pub is_number_of_sets : ℕ → Bool
-is_number_of_sets n = list_any (λ sets. n == sets) (8 ∷ 16 ∷ 32 ∷ 64 ∷ 128 ∷ 256 ∷ [])
 
 -- The table: an integer with its default, or an array of at most so many integers, which is empty by default.
 unfoldable pub row : Key → Row
@@ -64,11 +60,6 @@ abbrev pub default_of : Kind → ℕ
 default_of (Integer default) = default
 default_of (Integers most) = 0
 
--- the shape of a cache is one that the table of keys takes
-pub record IsShape (shape : Shape) : Type 0 where
-  pub ways : (0 < shape.ways) × (shape.ways ≤ 4)
-  pub sets : is_number_of_sets shape.sets ≡ true
-
 -- what the table of keys asks of a configuration
 pub record IsOfTable (config : Config) : Type 0 where
   pub cores : config.cores ≡ 1
@@ -80,8 +71,8 @@ pub record IsOfTable (config : Config) : Type 0 where
   pub window : (0 < config.window) × (config.window ≤ 1024)
   pub buffer : (0 < config.buffer) × (config.buffer ≤ 8)
   pub watch : config.watch ≡ []
-  pub fetch_cache : IsShape config.fetch_cache
-  pub load_cache : IsShape config.load_cache
+  pub fetch_cache : IsCacheShape config.fetch_cache
+  pub load_cache : IsCacheShape config.load_cache
   pub scrub_lines : (config.scrub.first % 32 ≡ 0) × (config.scrub.length % 32 ≡ 0) × (0 < config.scrub.length)
   pub scrub_in_ram : is_in_ram config.ram config.scrub.first config.scrub.length ≡ true
   pub scrub_turns : config.scrub_turns ≡ 0

@@ -1,6 +1,7 @@
 ghost use Rattle.std.specs.Prelude.{◌≡◌};
 ghost use Rattle.lf_model.specs.Start.{is_in_ram};
-ghost use Rattle.run_texts.specs.Keys.{row, section_of, name_of, default_of, is_number_of_sets};
+ghost use Rattle.lf_model.specs.Caches.Cache.{is_number_of_sets};
+ghost use Rattle.run_texts.specs.Keys.{row, section_of, name_of, default_of};
 
 use lf_model::addresses::{RAM_FIRST, is_in_ram};
 use lf_model::config::Config;

@@ -33,7 +33,7 @@ use Rattle.lf_model.specs.declared.trace.Op.{Op}
 use Rattle.lf_model.specs.declared.trace.Trace.{Trace}
 use Rattle.lf_model.specs.declared.trace.Word2.{Word2}
 use Rattle.run_trace.specs.Gathered.{result_kept, IsGatherable}
-use Rattle.run_trace.proofs.Composing.{IsRight, IsAnswered, Along, after, along_more, along_start, turns_right, account_reported, cores_accounted}
+use Rattle.lf_model.proofs.RecordsCompose.{IsRight, IsAnswered, Along, after, along_more, along_start, turns_right, account_reported, cores_accounted}
 use Rattle.run_trace.proofs.Headlines.{missing_if}
 use Rattle.run_trace.proofs.Replayed.{ground_at, along, answered_here, right_here, walked_turns}
 use Rattle.run_trace.proofs.Stepping.{count_blind, steps_without}

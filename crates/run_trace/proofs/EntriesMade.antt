@@ -48,7 +48,7 @@ use Rattle.lf_model.specs.declared.trace.Op.{Op}
 use Rattle.lf_model.specs.declared.trace.Word2.{Word2}
 use Rattle.run_trace.specs.Gathered.{IsGatherable}
 use Rattle.run_trace.proofs.Accounts.{each_right}
-use Rattle.run_trace.proofs.Composing.{Along, after, along_all, along_start, along_cores, transfer_made_right}
+use Rattle.lf_model.proofs.RecordsCompose.{Along, after, along_all, along_start, along_cores, transfer_made_right}
 use Rattle.run_trace.proofs.CourseKept.{count_one, IsFailedAt, is_turns, is_own, is_drain, is_entered_drain, Keeps, IsSound, Grown, keeps_course, keeps_local_steps, grown_through, grown_own_turn, grown_finished}
 use Rattle.run_trace.proofs.EntryNumbers.{get_in_first, filter_here, count_within, store_entered, store_made, store_stores, none_yet, failed_stop, seen_of, seen_reported, index_most, index_in_first, index_at_seam, atomic_is}
 use Rattle.run_trace.proofs.Cores.{some_at}

@@ -25,7 +25,7 @@ use Rattle.lf_model.specs.declared.trace.Word2.{Word2}
 use Rattle.run_trace.specs.Fates.{fates_recorded}
 use Rattle.run_trace.specs.Gathered.{result_kept, IsGatherable}
 use Rattle.run_trace.proofs.Execution.{once_cores, once_order, threads}
-use Rattle.run_trace.proofs.Results.{results, words, words_told, once_transfers}
+use Rattle.run_trace.proofs.Results.{results, words, words_shown, once_transfers}
 use Rattle.run_trace.proofs.Together.{order_loads, order_stores, order_values}
 use Rattle.run_trace.proofs.TraceReplay.{trace, status, record_kept, core_at_end, words_at_end, own_count}
 
@@ -89,9 +89,9 @@ module _ (setup : Setup) (records : List CoreRecord) (bus : BusRecord) (watch : 
 
   pub once_final : OnceAtFinal setup reported
   once_final = record {
-    cores_told = length-map records result_kept ∙ ok.right.one_each;
-    fates_told = fates_count records bus.fates 0 setup.flips;
-    words_told = words_told setup records log bus.transfers at bus.fates watch ok.right reported refl refl;
+    cores_shown = length-map records result_kept ∙ ok.right.one_each;
+    fates_shown = fates_count records bus.fates 0 setup.flips;
+    words_shown = words_shown setup records log bus.transfers at bus.fates watch ok.right reported refl refl;
   }
 
   pub execution : IsTsoExecution setup reported

@@ -12,7 +12,6 @@ pub mod Counts
 pub mod ProgramOrder
 pub mod Execution
 pub mod Results
-pub mod Composing
 pub mod NamedWords
 pub mod Replayed
 pub mod TraceReplay

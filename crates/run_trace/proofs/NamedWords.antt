@@ -16,7 +16,7 @@ use Rattle.lf_model.specs.declared.record.CoreRecord.{CoreRecord}
 use Rattle.lf_model.specs.declared.trace.CoreEnd.{CoreEnd}
 use Rattle.lf_model.specs.declared.trace.CoreEnd.TheVariants.{Halt, Stop, Limit}
 use Rattle.lf_model.specs.declared.trace.Word2.{Word2}
-use Rattle.run_trace.proofs.Composing.{is_name}
+use Rattle.lf_model.proofs.RecordsCompose.{is_name}
 
 and_none : (b : Bool) → (b && false) ≡ false
 and_none true = refl

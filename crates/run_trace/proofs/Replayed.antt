@@ -7,8 +7,8 @@ use Rattle.std.proofs.lemmas.List.Sums.{fold-append}
 use Rattle.std.proofs.lemmas.Option.{slice_get-map, slice_get_within, same_Some}
 use Rattle.std.specs.List.{enumerate_from, list_all, range_with_len}
 use Rattle.std.specs.Option.{option_map, option_map_or}
-use Rattle.run_trace.proofs.Composing.{IsNamed, IsRight, IsAnswered, Along, is_name, along_all, along_start}
-use Rattle.run_trace.proofs.Composing.IsRight.{ByScrubber, ByCore}
+use Rattle.lf_model.proofs.RecordsCompose.{IsNamed, IsRight, IsAnswered, Along, is_name, along_all, along_start}
+use Rattle.lf_model.proofs.RecordsCompose.IsRight.{ByScrubber, ByCore}
 use Rattle.lf_model.specs.Bus.Replay.{name_of}
 use Rattle.lf_model.specs.Bus.Status.{AhbStatus}
 use Rattle.lf_model.specs.Bus.Walk.{Walk, scrubber, next_transfer, walked, walk_by, walk_after}

@@ -141,8 +141,8 @@ module _ (setup : Setup) (records : List CoreRecord) (log : List Entry) (transfe
       (sym (ap (λ (ws : List Word2). slice_get ws i) (watch_is ∙ ok.watch_is) ∙ slice_get-map (watched_word setup.image log (memory_after setup.flips (words_named_by_all records) transfers).words) setup.config.watch i))
       (shown_at (slice_get setup.config.watch i))
 
-  pub words_told : trace.watch ≡ watch → map address_of trace.watch ≡ setup.config.watch
-  words_told watch_is =
+  pub words_shown : trace.watch ≡ watch → map address_of trace.watch ≡ setup.config.watch
+  words_shown watch_is =
       ap (map address_of) (watch_is ∙ ok.watch_is)
       ∙ (map-map address_of (watched_word setup.image log (memory_after setup.flips (words_named_by_all records) transfers).words) setup.config.watch
       ∙ map_same (λ (addr : ℕ). addr) setup.config.watch (each_all (λ (addr : ℕ). addr ≡ addr) setup.config.watch (λ addr. refl)))

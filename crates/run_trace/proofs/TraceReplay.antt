@@ -6,7 +6,7 @@ use Rattle.std.specs.List.{enumerate_from}
 use Rattle.std.specs.Option.{option_map}
 use Rattle.ahb_bus.specs.declared.record.BusRecord.{BusRecord}
 use Rattle.lf_model.proofs.EachLemmas.{filter_map_same}
-use Rattle.run_trace.proofs.Composing.{after, along_cores}
+use Rattle.lf_model.proofs.RecordsCompose.{after, along_cores}
 use Rattle.lf_model.proofs.ReplayLemmas.{core_after_all, turns_without_length}
 use Rattle.lf_model.specs.Bus.Replay.{Core, Replay, replay_start, replay_turn, core_finished, replay_finished, replay}
 use Rattle.lf_model.specs.Bus.Status.{AhbStatus}

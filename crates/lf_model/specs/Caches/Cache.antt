@@ -1,9 +1,19 @@
 -- A cache: its slots, set by set, and its counters of parity errors (GRLIB, LEON3FT, cache subsystem). That the counters stop
 -- at 3 is this machine's own.
-use Rattle.std.specs.Prelude.{ℕ, ◌+◌, ◌*◌, ◌/◌, ◌%◌, nat_lt, List, Option, find, replicate, slice_index_or, slice_set, if◌then◌else◌}
-use Rattle.std.specs.List.{range_with_len}
+use Rattle.std.specs.Prelude.{ℕ, ◌≡◌, ◌+◌, ◌*◌, ◌/◌, ◌%◌, ◌==◌, ◌≤◌, nat_lt, true, Bool, List, [], ◌∷◌, Option, find, replicate, slice_index_or, slice_set, if◌then◌else◌}
+use Rattle.std.specs.List.{range_with_len, list_any}
 use Rattle.lf_model.specs.Caches.Slot.{Slot, empty_slot, holds}
 use Rattle.lf_model.specs.declared.config.Shape.{Shape}
+
+-- the sets that each way of a cache may have
+abbrev pub is_number_of_sets : ℕ → Bool
+is_number_of_sets n = list_any (λ sets. n == sets) (8 ∷ 16 ∷ 32 ∷ 64 ∷ 128 ∷ 256 ∷ [])
+
+-- one to four ways of 8 to 256 sets
+pub record IsCacheShape (shape : Shape) : Type 0 where
+  pub some_way : 1 ≤ shape.ways
+  pub few_ways : shape.ways ≤ 4
+  pub sets : is_number_of_sets shape.sets ≡ true
 
 -- way w of set s is slot s * ways + w; uses counts the uses of slots so far
 pub record Cache : Type 0 where

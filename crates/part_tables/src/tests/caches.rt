@@ -1,5 +1,6 @@
 ghost use Rattle.std.specs.Prelude.{◌≡◌, ◌<◌, ◌≤◌};
-ghost use Rattle.parity_cache.specs.CacheState.{reset_cache, is_number_of_sets};
+ghost use Rattle.lf_model.specs.Caches.Cache.{is_number_of_sets};
+ghost use Rattle.parity_cache.specs.CacheState.{reset_cache};
 
 use super::expect;
 use lf_model::bus::Why;
