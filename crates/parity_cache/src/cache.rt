@@ -492,7 +492,9 @@ impl ParityCache {
 
     /// The counters of parity errors.
     pub fn counts(&self) -> Counts
-        ensures { result ≡ record { tag_errors = self.now.cache.tag_errors; byte_errors = self.now.cache.byte_errors } }
+        ensures shown { result ≡ record { tag_errors = self.now.cache.tag_errors; byte_errors = self.now.cache.byte_errors } }
+        ensures tag_errors { self.now.cache.tag_errors ≤ 3 }
+        ensures byte_errors { self.now.cache.byte_errors ≤ 3 }
     {
         Counts {
             tag_errors: self.tag_errors,

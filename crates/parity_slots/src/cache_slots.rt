@@ -94,6 +94,8 @@ impl Slots {
     }
 
     /// A tag check found a tag byte of a slot struck, and drops its line.
+    #[cold]
+    #[inline(never)]
     pub fn drop_by_tag(&mut self, i: usize)
         requires { i < length self.old.slots }
         ensures { self.new ≡ changed dropped_by_tag i self.old }
@@ -102,6 +104,8 @@ impl Slots {
     }
 
     /// A look-up found a byte of the words that it wants struck, and drops the line of a slot.
+    #[cold]
+    #[inline(never)]
     pub fn drop_by_byte(&mut self, i: usize, addr: u32, len: u8)
         requires slot { i < length self.old.slots }
         requires access { IsAccess addr len }
