@@ -9,6 +9,7 @@ pub mod Strikes
 pub mod Fills
 pub mod Fates
 pub mod CanRun
+pub mod IsCore
 pub mod CoreValue
 pub mod Phases
 pub mod Needs

@@ -1,5 +1,5 @@
 -- What a step or a turn of a core leaves of its parts, as the seat of its course needs it.
-use Rattle.std.specs.Prelude.{ℕ, ◌≡◌, ◌+◌, ◌++◌, List, length, map, filter, slice_index, false, None, if◌then◌else◌}
+use Rattle.std.specs.Prelude.{ℕ, ◌≡◌, ◌+◌, ◌++◌, nat_le, List, length, map, filter, slice_index, false, None, if◌then◌else◌}
 use Rattle.std.specs.Int.{from_bool}
 use Rattle.std.specs.List.{zip}
 use Rattle.core_parts.specs.CoreValue.{CoreValue}
@@ -12,7 +12,6 @@ use Rattle.lf_model.specs.Caches.Slot.{history_at}
 use Rattle.lf_model.specs.Course.LocalStep.{retired_arrays, named_cell, way_hit}
 use Rattle.lf_model.specs.Course.Progress.{Progress, Completion, completed, stores_made}
 use Rattle.lf_model.specs.Course.Syndromes.{syndromes_of, enters_log}
-use Rattle.lf_model.specs.Course.Turn.{is_past_steps}
 use Rattle.lf_model.specs.Course.Turned.{own_turn, turn_trap}
 use Rattle.lf_model.specs.Flips.{syndrome}
 use Rattle.lf_model.specs.Names.{same_kind}
@@ -47,13 +46,17 @@ pub record Retires (g : Ground) (k : Progress) (old new : CoreValue) : Type 0 wh
   pub stored : stores_in new ≡ stores_in old + stores_made (next_effect g k).access
   pub waits : length new.ports.waiting ≡ length old.ports.waiting + stores_made (next_effect g k).access
 
+-- how many steps a core has made once its turn ends: that of a step ends it, and a drain after the last step ends none
+abbrev pub step_ended : CoreValue → ℕ
+step_ended v = if nat_le v.setup.config.steps v.steps then v.steps else v.steps + 1
+
 -- the entries of the log that a core has seen once it has made this transfer
 abbrev pub seen_with : Transfer → Progress → ℕ
 seen_with t k = k.seen + length k.unseen + from_bool (enters_log t)
 
 -- a turn that retires no instruction: a fill, a drain, or a snoop
 pub record Turns (g : Ground) (k : Progress) (t : Transfer) (old new : CoreValue) : Type 0 where
-  pub steps : new.steps ≡ (if is_past_steps g k then k.steps else k.steps + 1)
+  pub steps : new.steps ≡ step_ended old
   pub quiet : new.quiet ≡ 0
   pub counted : new.arch.n ≡ old.arch.n
   pub run : run_of_core new ≡ k.run
@@ -65,7 +68,7 @@ pub record Turns (g : Ground) (k : Progress) (t : Transfer) (old new : CoreValue
 
 -- the turn of an atomic that retires
 pub record Exchanges (g : Ground) (k : Progress) (t : Transfer) (old new : CoreValue) : Type 0 where
-  pub steps : new.steps ≡ (if is_past_steps g k then k.steps else k.steps + 1)
+  pub steps : new.steps ≡ step_ended old
   pub quiet : new.quiet ≡ 0
   pub counted : new.arch.n ≡ old.arch.n + 1
   pub run : run_of_core new ≡ answered g.core g.given.answers k.run (next_effect g k)
@@ -90,7 +93,7 @@ pub record Stops (g : Ground) (k : Progress) (cell syn : ℕ) (old new : CoreVal
 
 -- a turn that met word j bad, which it wanted; where it is a store, the stores that wait are lost
 pub record StopsAtTurn (g : Ground) (k : Progress) (t : Transfer) (j tt_ syn : ℕ) (old new : CoreValue) : Type 0 where
-  pub steps : new.steps ≡ (if is_past_steps g k then k.steps else k.steps + 1)
+  pub steps : new.steps ≡ step_ended old
   pub quiet : new.quiet ≡ 0
   pub counted : new.arch.n ≡ old.arch.n
   pub run : run_of_core new ≡ k.run
