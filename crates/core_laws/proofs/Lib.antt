@@ -20,3 +20,4 @@ pub mod TurnCount
 pub mod LostAccount
 pub mod Errors
 pub mod NextStep
+pub mod Aligned
