@@ -1,3 +1,1 @@
 pub mod LateLemmas
-pub mod MemoryLemmas
-pub mod TurnLemmas

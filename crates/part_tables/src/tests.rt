@@ -9,16 +9,12 @@ mod decoding;
 mod encoding;
 mod flips;
 mod image_memory;
-mod log;
 mod memory;
 mod numbers;
 mod products;
 mod registers;
-mod scrubbing;
-mod status;
 mod text;
 mod traps;
-mod turns;
 mod windows;
 mod word_code;
 

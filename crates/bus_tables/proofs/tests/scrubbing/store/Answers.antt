@@ -1,6 +1,6 @@
 use Rattle.std.proofs.Common.{arith}
-use Rattle.part_tables.proofs.TurnLemmas.{core_turn}
-use Rattle.part_tables.proofs.tests.scrubbing.store.Goals as goal
+use Rattle.bus_tables.proofs.TurnLemmas.{core_turn}
+use Rattle.bus_tables.proofs.tests.scrubbing.store.Goals as goal
 
 pub store-stored-requires-clause-turn : goal.store-stored-requires-clause-turn
 store-stored-requires-clause-turn g c =

@@ -1,7 +1,7 @@
 use Rattle.std.proofs.Common.{ap, ◌∙◌}
 use Rattle.bus_memory.specs.MemoryState.{MemoryState, ram_of}
-use Rattle.part_tables.proofs.MemoryLemmas.{stored_ram, stored_room}
-use Rattle.part_tables.proofs.tests.turns.store.Goals as goal
+use Rattle.bus_tables.proofs.MemoryLemmas.{stored_ram, stored_room}
+use Rattle.bus_tables.proofs.tests.turns.store.Goals as goal
 
 pub returns-clause-ram : goal.returns-clause-ram
 returns-clause-ram g c = ap ram_of c.store.ensures.made ∙ stored_ram c.args.asked.addr c.args.asked.len c.args.value 64 c.args.memory.now c.requires.ram
