@@ -10,3 +10,5 @@ pub mod Stays
 pub mod AtReset
 pub mod Begins
 pub mod Spares
+pub mod FormsKept
+pub mod WaitsKept
