@@ -12,3 +12,5 @@ pub mod Begins
 pub mod Spares
 pub mod FormsKept
 pub mod WaitsKept
+pub mod CoreAtReset
+pub mod CoreBegun
