@@ -1,4 +1,4 @@
-ghost use Rattle.std.specs.Prelude.{◌≡◌, ◌+◌, ◌++◌, ◌^◌, ◌<◌, ◌∷◌, [], length, vec_len, IfOk};
+ghost use Rattle.std.specs.Prelude.{◌≡◌, ◌+◌, ◌^◌, ◌<◌, length, vec_len, IfOk};
 ghost use Rattle.std.specs.Vec.{vec_capacity};
 ghost use Rattle.core_laws.specs.SeenSoFar.{lost_from, losing};
 ghost use Rattle.core_parts.specs.RecordState.{reset_record};
@@ -88,7 +88,7 @@ impl Record {
     ///
     /// Memory ran out.
     pub fn new(alloc: Global, core: u32, room: u32) -> Result<Record, AllocError>
-        ensures { IfOk result (λ r. r ≡ reset_record core room) }
+        ensures reset { IfOk result (λ r. r ≡ reset_record core room) }
     {
         Ok(Record {
             core,
@@ -98,6 +98,13 @@ impl Record {
             ops: Vec::with_capacity(alloc, room as usize)?,
             seen_by: Vec::with_capacity(alloc, room as usize)?,
         })
+    }
+
+    /// The core's number.
+    pub fn core(&self) -> u32
+        ensures number { result ≡ self.now.core }
+    {
+        self.core
     }
 
     /// How many steps the core made.
