@@ -14,3 +14,4 @@ pub mod FormsKept
 pub mod WaitsKept
 pub mod CoreAtReset
 pub mod CoreBegun
+pub mod RegularMade
