@@ -1,5 +1,5 @@
 -- A step begins: its flips use no slot of a cache, so that a core that can run still can.
-use Rattle.std.proofs.Common.{◌≡◌, ℕ, ◌+◌, ◌≤◌, Bool, true, false, cond, nat_eq, List, [], ◌∷◌, refl, sym, ap, ◌∙◌, subst, arith}
+use Rattle.std.proofs.Common.{◌≡◌, ℕ, ◌+◌, ◌≤◌, Bool, true, false, cond, nat_eq, List, [], ◌∷◌, refl, ap, ◌∙◌, arith}
 use Rattle.core_parts.specs.CanRun.{CanRun}
 use Rattle.core_parts.specs.Inside.{room_in, uses_left}
 use Rattle.core_parts.specs.Strikes.{arrays_of, with_arrays, own_flips, IsFor, Came}
@@ -40,28 +40,18 @@ begun_uses : (f : Bool) (flips : List (ℕ × Flip)) (step : ℕ) (a : CourseArr
 begun_uses f [] step a = refl
 begun_uses f (flip ∷ flips) step a = begun_uses f flips step (strike step flip.0 a flip.1) ∙ one_strike f step flip.0 a flip.1
 
-module _ (core step : ℕ) (p : Parts) (runs : CanRun p.record.steps 0 p) (core_is : core ≡ p.record.core) (step_is : step ≡ p.record.steps) where
-  pub units_now : IsFor core p.site.flips p.arrays
-  units_now = subst (λ (c : ℕ). IsFor c p.site.flips p.arrays) (sym core_is) runs.units
-
-  pub came_now : Came p.site.flips core step (arrays_of p.arrays)
-  came_now =
-      subst (λ (c : ℕ). Came p.site.flips c step (arrays_of p.arrays)) (sym core_is)
-      (subst (λ (s : ℕ). Came p.site.flips p.record.core s (arrays_of p.arrays)) (sym step_is) runs.came)
-
-  pub can_run_begun : (a : Arrays) → a ≡ with_arrays p.arrays (begun (own_flips core p.site.flips) step (arrays_of p.arrays)) → IsFor core p.site.flips a → Came p.site.flips core (step + 1) (arrays_of a)
-      → CanRun (p.record.steps + 1) 0 (record p { arrays = a })
-  can_run_begun a struck units came = record {
-    units = subst (λ (c : ℕ). IsFor c p.site.flips a) core_is units;
-    came =
-        subst (λ (c : ℕ). Came p.site.flips c (p.record.steps + 1) (arrays_of a)) core_is
-        (subst (λ (s : ℕ). Came p.site.flips core (s + 1) (arrays_of a)) step_is came);
-    room =
-        let uses : a.data_cache.cache.uses ≡ p.arrays.data_cache.cache.uses = ap (λ (x : Arrays). x.data_cache.cache.uses) struck ∙ begun_uses false (own_flips core p.site.flips) step (arrays_of p.arrays) in
-        let room : p.site.config.steps ≤ room_in p + p.record.steps = runs.room in
-        omega (arith, uses, room);
-    fetch_room =
-        let uses : a.fetch_cache.cache.uses ≡ p.arrays.fetch_cache.cache.uses = ap (λ (x : Arrays). x.fetch_cache.cache.uses) struck ∙ begun_uses true (own_flips core p.site.flips) step (arrays_of p.arrays) in
-        let room : p.site.config.steps ≤ uses_left p.arrays.fetch_cache + (p.record.steps + 0) = runs.fetch_room in
-        omega (arith, uses, room);
-  }
+-- arrays after the flips of the step, in place of the core's
+pub can_run_begun : (p : Parts) → CanRun p.record.steps 0 p → (a : Arrays) → a ≡ with_arrays p.arrays (begun (own_flips p.record.core p.site.flips) p.record.steps (arrays_of p.arrays))
+    → IsFor p.record.core p.site.flips a → Came p.site.flips p.record.core (p.record.steps + 1) (arrays_of a) → CanRun (p.record.steps + 1) 0 (record p { arrays = a })
+can_run_begun p runs a struck units came = record {
+  units = units;
+  came = came;
+  room =
+      let uses : a.data_cache.cache.uses ≡ p.arrays.data_cache.cache.uses = ap (λ (x : Arrays). x.data_cache.cache.uses) struck ∙ begun_uses false (own_flips p.record.core p.site.flips) p.record.steps (arrays_of p.arrays) in
+      let room : p.site.config.steps ≤ room_in p + p.record.steps = runs.room in
+      omega (arith, uses, room);
+  fetch_room =
+      let uses : a.fetch_cache.cache.uses ≡ p.arrays.fetch_cache.cache.uses = ap (λ (x : Arrays). x.fetch_cache.cache.uses) struck ∙ begun_uses true (own_flips p.record.core p.site.flips) p.record.steps (arrays_of p.arrays) in
+      let room : p.site.config.steps ≤ uses_left p.arrays.fetch_cache + (p.record.steps + 0) = runs.fetch_room in
+      omega (arith, uses, room);
+}

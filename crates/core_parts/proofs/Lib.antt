@@ -10,3 +10,8 @@ pub mod Stays
 pub mod AtReset
 pub mod Begins
 pub mod Spares
+pub mod FormsKept
+pub mod WaitsKept
+pub mod CoreAtReset
+pub mod CoreBegun
+pub mod RegularMade

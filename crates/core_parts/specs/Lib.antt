@@ -8,6 +8,7 @@ pub mod Inside
 pub mod Strikes
 pub mod Fills
 pub mod Fates
+pub mod Losing
 pub mod CanRun
 pub mod IsCore
 pub mod CoreValue

@@ -27,10 +27,11 @@ use Rattle.lf_model.specs.declared.trace.Op.{Op}
 abbrev pub tried_at : Ground → Progress → Attempt
 tried_at g k = attempt g.setup.image k.run.state (next_effect g k) (begun g.flips k.steps k.arrays)
 
--- its operations as they completed
+-- the operations of a core as its record shows them completed
 abbrev pub completions_of : CoreValue → List Completion
 completions_of v = map (λ (o : Op × ℕ). completion_reported o.0 o.1) (zip v.ops v.seen_by)
 
+-- how many stores it made
 abbrev pub stores_in : CoreValue → ℕ
 stores_in v = length (filter is_store v.ops)
 
@@ -46,7 +47,7 @@ pub record Retires (g : Ground) (k : Progress) (old new : CoreValue) : Type 0 wh
   pub stored : stores_in new ≡ stores_in old + stores_made (next_effect g k).access
   pub waits : length new.ports.waiting ≡ length old.ports.waiting + stores_made (next_effect g k).access
 
--- how many steps a core has made once its turn ends: that of a step ends it, and a drain after the last step ends none
+-- how many steps a core has made once its turn ends: a turn ends the step that needed it, but a drain after the last step ends none
 abbrev pub step_ended : CoreValue → ℕ
 step_ended v = if nat_le v.setup.config.steps v.steps then v.steps else v.steps + 1
 
@@ -54,7 +55,7 @@ step_ended v = if nat_le v.setup.config.steps v.steps then v.steps else v.steps 
 abbrev pub seen_with : Transfer → Progress → ℕ
 seen_with t k = k.seen + length k.unseen + from_bool (enters_log t)
 
--- a turn that retires no instruction: a fill, a drain, or a snoop
+-- a turn on the bus that retires no instruction and meets no bad word that it wants: a fill, a drain, or a snoop
 pub record Turns (g : Ground) (k : Progress) (t : Transfer) (old new : CoreValue) : Type 0 where
   pub steps : new.steps ≡ step_ended old
   pub quiet : new.quiet ≡ 0
@@ -66,7 +67,7 @@ pub record Turns (g : Ground) (k : Progress) (t : Transfer) (old new : CoreValue
   pub stored : stores_in new ≡ stores_in old
   pub waits : length new.ports.waiting + from_bool (same_kind t.kind Store) ≡ length old.ports.waiting
 
--- the turn of an atomic that retires
+-- the turn of LDSTUB or SWAP, which retires with it
 pub record Exchanges (g : Ground) (k : Progress) (t : Transfer) (old new : CoreValue) : Type 0 where
   pub steps : new.steps ≡ step_ended old
   pub quiet : new.quiet ≡ 0
@@ -78,7 +79,7 @@ pub record Exchanges (g : Ground) (k : Progress) (t : Transfer) (old new : CoreV
   pub stored : stores_in new ≡ stores_in old + stores_made (next_effect g k).access
   pub waits : length new.ports.waiting + from_bool (same_kind t.kind Store) ≡ length old.ports.waiting + stores_made (next_effect g k).access
 
--- a step without a turn that a bad register cell, with this syndrome, ends for good
+-- a step without a turn in which a bad register cell, with this syndrome, stops the core
 pub record Stops (g : Ground) (k : Progress) (cell syn : ℕ) (old new : CoreValue) : Type 0 where
   pub steps : new.steps ≡ old.steps + 1
   pub quiet : new.quiet ≡ old.quiet + 1
@@ -91,7 +92,8 @@ pub record Stops (g : Ground) (k : Progress) (cell syn : ℕ) (old new : CoreVal
   pub stored : stores_in new ≡ stores_in old
   pub waits : length new.ports.waiting ≡ length old.ports.waiting
 
--- a turn that met word j bad, which it wanted; where it is a store, the stores that wait are lost
+-- a turn that stops the core with trap type tt_: it wanted word j, which was bad with this syndrome. Where it is a store, the stores
+-- that wait are lost.
 pub record StopsAtTurn (g : Ground) (k : Progress) (t : Transfer) (j tt_ syn : ℕ) (old new : CoreValue) : Type 0 where
   pub steps : new.steps ≡ step_ended old
   pub quiet : new.quiet ≡ 0

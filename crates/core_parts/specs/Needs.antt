@@ -1,4 +1,4 @@
--- The turn that a step asks for, and what the table of the definitions says of it.
+-- The turn on the bus that a step needs, and the answer of a step by what it needs.
 use Rattle.std.specs.Prelude.{ℕ, ◌≡◌, Option, Some, None}
 use Rattle.lf_model.specs.Caches.Slot.{line_of}
 use Rattle.lf_model.specs.Course.Outcome.{Need}
@@ -14,7 +14,7 @@ use Rattle.lf_model.specs.declared.step.Did.TheVariants as did
 use Rattle.lf_model.specs.declared.step.Turn.{Turn}
 use Rattle.lf_model.specs.declared.step.Turn.TheVariants.{Fetch, Load, Atomic, Drain, Snoop}
 
--- its kind and its cause
+-- the kind of its transfer
 abbrev pub kind_of : Turn → TurnKind
 kind_of (Fetch line why) = kinds.Fetch
 kind_of (Load addr len why) = kinds.Load
@@ -22,6 +22,7 @@ kind_of (Atomic addr len new rd) = kinds.Atomic
 kind_of (Drain why) = kinds.Store
 kind_of Snoop = kinds.Snoop
 
+-- its cause
 abbrev pub why_of : Turn → Why
 why_of (Fetch line why) = why
 why_of (Load addr len why) = why
@@ -29,15 +30,17 @@ why_of (Atomic addr len new rd) = whys.None
 why_of (Drain why) = why
 why_of Snoop = whys.Window
 
--- the turn has the address, length and number of the instruction at PC, which has this effect
+-- the instruction loads so many bytes from this address
 abbrev pub IsLoadOf : ℕ → ℕ → Option Access → Type 0
 IsLoadOf addr len None = ⊥
 IsLoadOf addr len (Some x) = (x.kind ≡ AccessKind.Load) × ((addr ≡ x.addr) × (len ≡ x.len))
 
+-- it is LDSTUB or SWAP, and the turn has its address, its bytes, the number that it stores and the register that it writes
 abbrev pub IsAtomicOf : Turn → Option Access → Type 0
 IsAtomicOf turn None = ⊥
 IsAtomicOf turn (Some x) = (x.kind ≡ AccessKind.Atomic) × (turn ≡ Atomic x.addr x.len x.put x.rd)
 
+-- the turn is aimed as the instruction at PC, with this effect, asks: a fetch at the line of PC, a load or an atomic at its operands
 abbrev pub IsTurnOf : ℕ → Effect → Turn → Type 0
 IsTurnOf pc e (Fetch line why) = line ≡ line_of pc
 IsTurnOf pc e (Load addr len why) = IsLoadOf addr len e.access
@@ -45,7 +48,8 @@ IsTurnOf pc e (Atomic addr len new rd) = IsAtomicOf (Atomic addr len new rd) e.a
 IsTurnOf pc e (Drain why) = why ≡ why
 IsTurnOf pc e Snoop = whys.Window ≡ whys.Window
 
--- the answer of a step by what it needs: it is made, or asks for its turn, or a bad register cell stops the core
+-- the answer of a step by what it needs: it needs no turn, and its instruction retires or takes the core into error mode; or it needs
+-- one, of this kind and cause; or a bad register cell, with this syndrome, stops the core
 abbrev pub IsAnswer : Need → Option ℕ → ℕ → Did → Type 0
 IsAnswer NoTurn None syn answer = answer ≡ did.Retired
 IsAnswer NoTurn (Some tt_) syn answer = answer ≡ did.Halt tt_

@@ -1,8 +1,10 @@
--- How a record is kept: both lists have the room that was reserved.
-use Rattle.std.specs.Prelude.{◌≡◌, ◌^◌, ◌<◌, ◌≤◌, length, vec_len}
+-- How a record is kept: both lists have the room that was reserved, and a report can show each operation.
+use Rattle.std.specs.Prelude.{◌≡◌, ◌^◌, ◌<◌, ◌≤◌, true, length, vec_len}
+use Rattle.std.specs.List.{list_all}
 use Rattle.std.specs.Vec.{vec_capacity}
 use Rattle.core_parts.specs.RecordState.{RecordState}
 use Rattle.core_parts.specs.declared.record.Record.TheInside.{Inside}
+use Rattle.lf_model.specs.Promise.Regular.{is_regular_op}
 
 abbrev pub kept : Inside → RecordState
 kept r = record {
@@ -20,3 +22,4 @@ pub record IsRecord (r : Inside) : Type 0 where
   pub same_room : vec_capacity r.seen_by ≡ vec_capacity r.ops
   pub within : vec_len r.ops ≤ vec_capacity r.ops
   pub few : vec_capacity r.ops < 2 ^ 32
+  pub fit : list_all is_regular_op r.ops.items ≡ true

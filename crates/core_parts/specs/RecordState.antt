@@ -1,6 +1,7 @@
 -- What a core made, as its users see it.
-use Rattle.std.specs.Prelude.{ℕ, List, [], length}
+use Rattle.std.specs.Prelude.{ℕ, ◌&&◌, Bool, List, [], length}
 use Rattle.core_parts.specs.declared.record.Operation.{Operation}
+use Rattle.lf_model.specs.Promise.Regular.{is_length, numbers_fit}
 use Rattle.lf_model.specs.declared.trace.Op.{Op}
 
 -- steps: those that it made; seen and turns: how many entries the log had, and how many transfers the bus had made, as its last turn
@@ -31,3 +32,7 @@ op_by r o = record {
   len = o.len;
   way = o.way;
 }
+
+-- it is of 1, 2, 4 or 8 bytes, and the numbers that it reads and stores have no more
+abbrev pub fits_bytes : RecordState → Operation → Bool
+fits_bytes r o = is_length o.len && numbers_fit (op_by r o) o.kind

@@ -1,4 +1,4 @@
-ghost use Rattle.std.specs.Prelude.{◌≡◌, ◌<◌, IfOk};
+ghost use Rattle.std.specs.Prelude.{◌≡◌, IfOk};
 ghost use Rattle.core_parts.specs.Reset.{reset_registers};
 ghost use Rattle.lf_model.specs.Caches.Cache.{IsCacheShape};
 ghost use Rattle.parity_cache.specs.CacheState.{reset_cache};

@@ -1,7 +1,8 @@
-ghost use Rattle.std.specs.Prelude.{◌≡◌, ◌<◌, ℕ, List, Some, slice_get};
+ghost use Rattle.std.specs.Prelude.{◌≡◌, ◌<◌, true, ℕ, List, Some, slice_get};
 ghost use Rattle.core_parts.specs.Fates.{own_fate, unless_late};
 ghost use Rattle.core_parts.specs.Strikes.{arrays_of, IsFor, Came};
 ghost use Rattle.lf_model.specs.Ledger.CoreAccount.{parity_errors};
+ghost use Rattle.lf_model.specs.Promise.Regular.{parity_fits};
 ghost use Rattle.lf_model.specs.declared.flip.Flip.{Flip};
 
 use crate::arrays::Arrays;
@@ -23,7 +24,7 @@ impl Arrays {
         requires registers { number < self.now.registers.flips }
         requires fetch_cache { number < self.now.fetch_cache.flips }
         requires data_cache { number < self.now.data_cache.flips }
-        ensures { (script : List Flip) (core step : ℕ) (flip : Flip) → IsFor core script self.now → Came script core step (arrays_of self.now)
+        ensures fate { (script : List Flip) (core step : ℕ) (flip : Flip) → IsFor core script self.now → Came script core step (arrays_of self.now)
             → slice_get script number ≡ Some flip → result ≡ own_fate core (arrays_of self.now) number flip }
     {
         let cells = self.registers.fate(number);
@@ -33,9 +34,10 @@ impl Arrays {
         unless_late(cells, in_caches)
     }
 
-    /// The counters of parity errors.
+    /// The counters of parity errors, each 0 to 3.
     pub fn parity(&self) -> Four
-        ensures { result ≡ parity_errors (arrays_of self.now) }
+        ensures counts { result ≡ parity_errors (arrays_of self.now) }
+        ensures fits { parity_fits result ≡ true }
     {
         let fetch = self.fetch_cache.counts();
         let data = self.data_cache.counts();

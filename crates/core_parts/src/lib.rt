@@ -1,7 +1,7 @@
 //! The parts of one core of the LEON3FT multiprocessor (GRLIB, LEON3FT): its register cells, parity caches and store buffer, the record
 //! of what it made, and what holds of them.
 //!
-//! An instruction works on `Parts` through the ports of `v8_exec`. `strike_due` lets the flips of a step strike the arrays, and
+//! An instruction works on `Parts` through the ports of `v8_exec`. `Parts::begin_step` lets the flips of a step strike the arrays, and
 //! `Arrays::fate` says what became of each flip. `good_words`, `good_text_words` and `good_wanted` read a line that a fill got.
 //!
 //! The definitions say what a core is (`specs/CoreValue.antt`), what its parts are to an instruction (`specs/Work.antt`), what a step needs
@@ -25,4 +25,3 @@ pub use parts::Parts;
 pub use phase::{CoreState, Phase};
 pub use record::{Completed, Operation, Record};
 pub use site::Site;
-pub use strikes::strike_due;

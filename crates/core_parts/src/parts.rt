@@ -2,9 +2,9 @@ ghost use Rattle.std.specs.Prelude.{◌≡◌, ◌+◌, ◌^◌, ◌<◌, ◌≤
 ghost use Rattle.core_laws.specs.SeenSoFar.{losing};
 ghost use Rattle.core_parts.specs.Strikes.{arrays_of, with_arrays, own_flips};
 ghost use Rattle.flip_ledger.specs.Plan.{IsPlanned};
-ghost use Rattle.lf_model.specs.Course.Arrays.{begun};
 ghost use Rattle.lf_model.specs.Caches.Cache.{IsCacheShape};
-ghost use Rattle.store_buffer.specs.BufferState.{BufferState};
+ghost use Rattle.lf_model.specs.Course.Arrays.{begun};
+ghost use Rattle.lf_model.specs.declared.control.Arch.{Arch};
 
 use crate::arrays::Arrays;
 use crate::record::Record;
@@ -37,6 +37,8 @@ fn drop_waiting(buffer: &mut Buffer)
 impl Parts {
     ghost use Rattle.core_parts.specs.CanRun.{CanRun};
     ghost use Rattle.core_parts.specs.Inside.{StartsAt};
+    ghost use Rattle.core_parts.specs.IsCore.{IsCore};
+    ghost use Rattle.core_parts.specs.Losing.{first_number};
 
     /// The parts of core number `core` at reset, with room for all that its steps may record.
     ///
@@ -49,7 +51,7 @@ impl Parts {
         requires least_depth { 1 ≤ s.now.config.buffer }
         requires most_depth { s.now.config.buffer ≤ 8 }
         requires flips { length s.now.flips < 2 ^ 32 }
-        ensures { IfOk result (StartsAt s.now core) }
+        ensures reset { IfOk result (StartsAt s.now core) }
     {
         let steps = s.config.steps as usize;
         let flips = s.flips.len() as u32;
@@ -62,36 +64,39 @@ impl Parts {
         })
     }
 
-    /// A step of core number `core` begins: the script's flips for it strike.
-    pub fn begin_step(&mut self, plan: &mut FlipPlan, core: u32)
-        requires core { core ≡ self.old.record.core }
-        requires planned { IsPlanned (Owner.Core core) self.old.site.flips self.old.record.steps plan.old }
+    /// A step begins: the flips of the script that are for this core, and for this step, strike.
+    pub fn begin_step(&mut self, plan: &mut FlipPlan)
+        requires planned { IsPlanned (Owner.Core self.old.record.core) self.old.site.flips self.old.record.steps plan.old }
         requires runs { CanRun self.old.record.steps 0 self.old }
         ensures struck { self.new ≡ record self.old {
-          arrays = with_arrays self.old.arrays (begun (own_flips core self.old.site.flips) self.old.record.steps (arrays_of self.old.arrays));
+          arrays = with_arrays self.old.arrays (begun (own_flips self.old.record.core self.old.site.flips) self.old.record.steps (arrays_of self.old.arrays));
         } }
-        ensures planned { IsPlanned (Owner.Core core) self.old.site.flips (self.old.record.steps + 1) plan.new }
+        ensures planned { IsPlanned (Owner.Core self.old.record.core) self.old.site.flips (self.old.record.steps + 1) plan.new }
         ensures runs { CanRun (self.old.record.steps + 1) 0 self.new }
+        ensures core { (a : Arch) → IsCore a self.old → IsCore a self.new }
     {
-        let step = self.record.steps();
-        strike_due(&mut self.arrays, plan, &self.site, core, step);
+        strike_due(&mut self.arrays, plan, &self.site, &self.record);
     }
 
     /// A store waits for the bus.
     pub fn has_waiting(&self) -> bool
-        ensures { result ≡ nat_lt 0 (length self.now.buffer.waiting) }
+        ensures some { result ≡ nat_lt 0 (length self.now.buffer.waiting) }
     {
         self.buffer.len() > 0
     }
 
-    /// The stores that wait never reach memory. The first of them is operation number `first`.
-    pub fn lose_waiting(&mut self, first: u32)
-        ensures { self.new ≡ record self.old {
+    /// The stores that wait, of which there is one at least, never reach memory: the operations from the first of them on are lost.
+    pub fn lose_waiting(&mut self)
+        requires some { 0 < length self.old.buffer.waiting }
+        ensures lost { self.new ≡ record self.old {
           buffer = record self.old.buffer { waiting = [] };
-          «record» = record self.old.record { ops = losing first self.old.record.ops };
+          «record» = record self.old.record { ops = losing (first_number self.old.buffer.waiting) self.old.record.ops };
         } }
     {
+        let Some(first) = self.buffer.front() else {
+            unreachable!()
+        };
         drop_waiting(&mut self.buffer);
-        self.record.lose_from(first);
+        self.record.lose_from(first.k);
     }
 }

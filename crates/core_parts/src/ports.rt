@@ -1,7 +1,8 @@
-ghost use Rattle.std.specs.Prelude.{◌≡◌, ◌+◌, ◌^◌, ◌<◌, length};
+ghost use Rattle.std.specs.Prelude.{◌≡◌, ◌+◌, ◌*◌, ◌^◌, ◌<◌, length};
 ghost use Rattle.core_parts.specs.Work.{load_made, store_made, next_pending};
 ghost use Rattle.parity_cache.specs.CacheState.{stored_cache};
 ghost use Rattle.parity_slots.specs.SlotState.{IsAccess};
+ghost use Rattle.v8_exec.specs.Reading.{FitsLook};
 
 use crate::parts::Parts;
 use crate::record::Operation;
@@ -12,7 +13,9 @@ use v8_exec::Ports;
 impl Parts {
     /// A look-up of the data cache that hit is a load, and retires.
     fn note_look(&mut self, addr: u32, len: u8, answer: Look)
-        requires { length self.old.record.ops < self.old.record.room }
+        requires access { IsAccess addr len }
+        requires fits { FitsLook len answer }
+        requires room { length self.old.record.ops < self.old.record.room }
         ensures { self.new ≡ record self.old { «record» = load_made addr len answer self.old.record } }
     {
         if let Look::Hit { value, way } = answer {
@@ -43,6 +46,7 @@ impl Parts {
     /// A store that waits updates the data cache, and retires.
     fn retire_store(&mut self, addr: u32, len: u8, value: u64)
         requires access { IsAccess addr len }
+        requires value { value < 2 ^ (8 * len) }
         requires uses { self.old.arrays.data_cache.cache.uses + 1 < 2 ^ 32 }
         requires room { length self.old.record.ops < self.old.record.room }
         ensures { self.new ≡ record self.old {

@@ -1,8 +1,10 @@
-ghost use Rattle.std.specs.Prelude.{◌≡◌, ◌+◌, ◌++◌, ◌^◌, ◌<◌, ◌∷◌, [], length, vec_len, IfOk};
+ghost use Rattle.std.specs.Prelude.{◌≡◌, ◌+◌, ◌^◌, ◌<◌, true, length, vec_len, IfOk};
+ghost use Rattle.std.specs.List.{list_all};
 ghost use Rattle.std.specs.Vec.{vec_capacity};
 ghost use Rattle.core_laws.specs.SeenSoFar.{lost_from, losing};
-ghost use Rattle.core_parts.specs.RecordState.{reset_record};
+ghost use Rattle.core_parts.specs.RecordState.{reset_record, fits_bytes};
 ghost use Rattle.core_parts.specs.Work.{with_operation};
+ghost use Rattle.lf_model.specs.Promise.Regular.{is_regular_op};
 
 use lf_model::bus::OpKind;
 use lf_model::trace::Op;
@@ -88,7 +90,7 @@ impl Record {
     ///
     /// Memory ran out.
     pub fn new(alloc: Global, core: u32, room: u32) -> Result<Record, AllocError>
-        ensures { IfOk result (λ r. r ≡ reset_record core room) }
+        ensures reset { IfOk result (λ r. r ≡ reset_record core room) }
     {
         Ok(Record {
             core,
@@ -98,6 +100,13 @@ impl Record {
             ops: Vec::with_capacity(alloc, room as usize)?,
             seen_by: Vec::with_capacity(alloc, room as usize)?,
         })
+    }
+
+    /// The core's number.
+    pub fn core(&self) -> u32
+        ensures number { result ≡ self.now.core }
+    {
+        self.core
     }
 
     /// How many steps the core made.
@@ -119,6 +128,13 @@ impl Record {
         ensures { result ≡ length self.now.ops }
     {
         self.ops.len() as u32
+    }
+
+    /// Each operation is one that a report can show. The call computes nothing: what it ensures holds of every record.
+    pub fn fits(&self)
+        ensures fit { list_all is_regular_op self.now.ops ≡ true }
+    {
+        let _ = &self.ops;
     }
 
     /// A step ends.
@@ -143,9 +159,10 @@ impl Record {
         self.turns = turns;
     }
 
-    /// An operation retires in the step that is begun.
+    /// An operation retires in the step that is begun. It is of 1, 2, 4 or 8 bytes, and its numbers have no more.
     pub fn retire(&mut self, made: Operation)
-        requires { length self.old.ops < self.old.room }
+        requires room { length self.old.ops < self.old.room }
+        requires fits { fits_bytes self.old made ≡ true }
         ensures { self.new ≡ with_operation made self.old }
     {
         let op = Op {

@@ -5,6 +5,7 @@ ghost use Rattle.lf_model.specs.Course.Arrays.{begun, with_cache};
 ghost use Rattle.parity_cache.specs.CacheUnits.{struck_at};
 
 use crate::arrays::Arrays;
+use crate::record::Record;
 use crate::site::Site;
 use flip_ledger::{FlipPlan, Owner, Strike, Target};
 use parity_cache::Unit;
@@ -72,17 +73,17 @@ fn strike(arrays: &mut Arrays, strike: Strike)
     }
 }
 
-/// The flips of a step strike the arrays of a core, in the order of the script.
-pub fn strike_due(arrays: &mut Arrays, plan: &mut FlipPlan, site: &Site, core: u32, step: u32)
-    requires planned { IsPlanned (Owner.Core core) site.now.flips step plan.old }
-    requires units { IsFor core site.now.flips arrays.old }
-    requires came { Came site.now.flips core step (arrays_of arrays.old) }
-    ensures struck { arrays.new ≡ with_arrays arrays.old (begun (own_flips core site.now.flips) step (arrays_of arrays.old)) }
-    ensures planned { IsPlanned (Owner.Core core) site.now.flips (step + 1) plan.new }
-    ensures units { IsFor core site.now.flips arrays.new }
-    ensures came { Came site.now.flips core (step + 1) (arrays_of arrays.new) }
+/// The flips of the next step of a core strike its arrays, in the order of the script. `made` is what the core made so far.
+pub fn strike_due(arrays: &mut Arrays, plan: &mut FlipPlan, site: &Site, made: &Record)
+    requires planned { IsPlanned (Owner.Core made.now.core) site.now.flips made.now.steps plan.old }
+    requires units { IsFor made.now.core site.now.flips arrays.old }
+    requires came { Came site.now.flips made.now.core made.now.steps (arrays_of arrays.old) }
+    ensures struck { arrays.new ≡ with_arrays arrays.old (begun (own_flips made.now.core site.now.flips) made.now.steps (arrays_of arrays.old)) }
+    ensures planned { IsPlanned (Owner.Core made.now.core) site.now.flips (made.now.steps + 1) plan.new }
+    ensures units { IsFor made.now.core site.now.flips arrays.new }
+    ensures came { Came site.now.flips made.now.core (made.now.steps + 1) (arrays_of arrays.new) }
 {
-    'due: while let Some(next) = plan.next_due(step) {
+    'due: while let Some(next) = plan.next_due(made.steps()) {
         strike(arrays, next);
     }
 }

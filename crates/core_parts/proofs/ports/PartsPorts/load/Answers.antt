@@ -1,9 +1,14 @@
 use Rattle.std.proofs.Common.{length}
 use Rattle.std.specs.Vec.{vec_capacity}
 use Rattle.core_parts.proofs.PortLemmas.{room_taken, room_after_look, ops_after_look, uses_after_look}
+use Rattle.core_parts.proofs.RegularMade.{cache_access}
+use Rattle.core_parts.specs.Inside.{seen_in}
 use Rattle.core_parts.specs.Work.{load_made}
 use Rattle.v8_exec.specs.Calls.{spent_by_look}
 use Rattle.core_parts.proofs.ports.PartsPorts.load.Goals as goal
+
+pub note_look-requires-clause-access : goal.note_look-requires-clause-access
+note_look-requires-clause-access c = cache_access (seen_in c.args.self.now).site c.args.addr c.args.len c.requires.access
 
 pub returns-clause-room : goal.returns-clause-room
 returns-clause-room c =
