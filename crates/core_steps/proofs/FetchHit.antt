@@ -14,9 +14,9 @@ use Rattle.lf_model.specs.Caches.Residence.{is_hit_in}
 use Rattle.lf_model.specs.Caches.Slot.{empty_slot, dropped_by_tag, holds, history_at, is_valid_word, has_struck_tag, has_wanted_words, has_struck_byte}
 use Rattle.lf_model.specs.Flips.{is_struck_byte}
 use Rattle.lf_model.specs.Start.{number_at}
-use Rattle.core_steps.specs.Fetches.{WholeLines}
+use Rattle.parity_cache.proofs.SetPlaces.{set_within, are_sets}
 use Rattle.parity_cache.specs.CacheState.{CacheState, line_at}
-use Rattle.parity_cache.specs.Resident.{IsResident, Holds}
+use Rattle.parity_cache.specs.Resident.{IsResident, Holds, IsWellFormed}
 use Rattle.parity_slots.proofs.RangeLemmas.{any_none, number_more}
 use Rattle.parity_slots.specs.SlotState.{number_of, value_at}
 
@@ -165,9 +165,9 @@ module _ (addr i : ℕ) (aligned : addr % 4 ≡ 0) (c : CacheState) (hit : (look
       }
 
   -- the number that was read is the word of these bytes
-  pub reads_word : (byte : ℕ → ℕ) → addr < 2 ^ 32 → WholeLines c → Holds byte c → value_at addr 4 (line_at i c) ≡ number_at byte addr 4
+  pub reads_word : (byte : ℕ → ℕ) → addr < 2 ^ 32 → IsWellFormed c → Holds byte c → value_at addr 4 (line_at i c) ≡ number_at byte addr 4
   unfolding number_at
-  reads_word byte below whole holds_bytes =
+  reads_word byte below formed holds_bytes =
       let line = line_at i c in
       let same : addr + 0 ≡ addr = omega arith in
       let in_set : Contains (set_of addr c.cache) i = subst (λ (a : ℕ). Contains (set_of a c.cache) i) same (resident 0 (omega arith)).of_set in
@@ -175,5 +175,7 @@ module _ (addr i : ℕ) (aligned : addr % 4 ≡ 0) (c : CacheState) (hit : (look
       let byte_at : (j : ℕ) → j < 4 → slice_index line (at + j) ≡ byte (addr + j) =
       λ j lt. let place : (addr + j) % 32 ≡ at + j = omega (arith, lt, aligned) in
       subst (λ (n : ℕ). slice_index line n ≡ byte (addr + j)) place (holds_bytes i (addr + j) (omega (arith, lt, aligned, below)) (resident j lt)) in
-      number_4 line at (omega (arith, whole addr i in_set, aligned))
+      let within : i < length c.cache.slots = set_within c.cache addr i in_set (are_sets c.cache.shape.sets formed.shape.sets).some formed.slots in
+      let whole : length (line_at i c) ≡ 32 = formed.bytes i (subst (λ (n : ℕ). i < n) (sym formed.lines) within) in
+      number_4 line at (omega (arith, whole, aligned))
       ∙ rw (byte_at 0 (omega arith), byte_at 1 (omega arith), byte_at 2 (omega arith), byte_at 3 (omega arith)) (omega arith)

@@ -1,7 +1,6 @@
 -- What the calls of a fetch ensure, in their own terms, is what the course says of it.
 use Rattle.std.proofs.Common.{◌≡◌, ◌∙◌, ◌+◌, ◌%◌, ◌^◌, ◌<◌, ℕ, true, false, fold, refl}
 use Rattle.core_parts.specs.Work.{WorkState, work_touch, work_answers}
-use Rattle.core_steps.specs.Fetches.{Fetches}
 use Rattle.core_steps.specs.Works.{Works}
 use Rattle.core_steps.proofs.FetchHit.{reads_word}
 use Rattle.core_steps.proofs.Working.{exec_works}
@@ -19,6 +18,7 @@ use Rattle.lf_model.specs.declared.step.Did.{Did}
 use Rattle.lf_model.specs.declared.step.Look.TheVariants.{Hit, Miss}
 use Rattle.lf_model.specs.declared.touch.Touch.TheVariants.{LookFetch}
 use Rattle.parity_cache.specs.CacheState.{CacheState, line_at, answer_of}
+use Rattle.parity_cache.specs.Resident.{Holds, IsWellFormed}
 use Rattle.parity_slots.specs.SlotState.{value_at}
 use Rattle.v8_exec.specs.Touching.{touches_of}
 
@@ -37,11 +37,11 @@ miss_of addr len c (Hits slot) why is = absurd cc
 miss_of addr len c (Misses cause) why is = cc
 
 -- the number read by a fetch is the image's word
-pub word_of : (image : Image) (addr : ℕ) (c : CacheState) (value way : ℕ) → addr % 4 ≡ 0 → addr < 2 ^ 32 → Fetches image c → Hit value way ≡ answer_of addr 4 c (look addr 4 c.cache).answer
+pub word_of : (image : Image) (addr : ℕ) (c : CacheState) (value way : ℕ) → addr % 4 ≡ 0 → addr < 2 ^ 32 → IsWellFormed c → Holds (initial_byte image) c → Hit value way ≡ answer_of addr 4 c (look addr 4 c.cache).answer
     → value ≡ word_at image addr
-word_of image addr c value way aligned fits fetches is =
+word_of image addr c value way aligned fits formed bytes is =
     let hits = hit_of addr 4 c (look addr 4 c.cache).answer value way is in
-    hits.value_is ∙ reads_word addr hits.slot aligned c hits.found_is (initial_byte image) fits fetches.whole fetches.bytes
+    hits.value_is ∙ reads_word addr hits.slot aligned c hits.found_is (initial_byte image) fits formed bytes
 
 module _ (was mid now : WorkState) (old new : Arch) (before after : Seen) (core_ w : ℕ) (did : Did) where
   pub hit_works : (slot : ℕ) → mid ≡ work_touch was (LookFetch old.ctl.pc) → old.core ≡ core_ → w ≡ word_at was.setup.image old.ctl.pc

@@ -1,6 +1,7 @@
 pub mod FetchHit
 pub mod Begun
 pub mod EffectEnds
+pub mod AccessFits
 pub mod Outcomes
 pub mod TouchesLeave
 pub mod Recorded
@@ -12,3 +13,7 @@ pub mod Valued
 pub mod Tried
 pub mod Fetched
 pub mod Asking
+pub mod StoresReach
+pub mod KeepsCore
+pub mod RunsOn
+pub mod StoreRoom

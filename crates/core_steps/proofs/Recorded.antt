@@ -7,9 +7,10 @@ use Rattle.std.proofs.lemmas.List.{map-append}
 use Rattle.std.proofs.lemmas.List.Elements.{filter-append}
 use Rattle.core_laws.proofs.Completions.{all_reported, reported_more}
 use Rattle.core_laws.proofs.ListLemmas.{count_append}
+use Rattle.core_parts.specs.Completes.{op_of}
 use Rattle.core_parts.specs.CoreValue.{CoreValue}
 use Rattle.core_parts.specs.PortState.{answers}
-use Rattle.core_steps.specs.Tries.{op_of, way_looked, op_by, ops_by, seen_here}
+use Rattle.core_steps.specs.Tries.{way_looked, op_by, ops_by, seen_here}
 use Rattle.core_steps.proofs.Outcomes.{Says}
 use Rattle.lf_model.specs.Caches.Cache.{Cache}
 use Rattle.lf_model.specs.Caches.Look.{LookUp, look}

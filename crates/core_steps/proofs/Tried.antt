@@ -58,7 +58,7 @@ value_at a seen s quiet named phase = record {
 
 -- ---- the record
 
-abbrev with_ops : RecordState → List Op → RecordState
+abbrev pub with_ops : RecordState → List Op → RecordState
 with_ops r ops = record r { ops = r.ops ++ ops; seen_by = r.seen_by ++ map (λ (o : Op). r.seen) ops }
 
 with_none : (r : RecordState) → r ≡ with_ops r []
@@ -187,7 +187,7 @@ module _ (did : Did) (old new : Arch) (before after : Seen) (was now : WorkState
       never (Turn kind why) eq = cc
       never (RegisterStop cell) eq = cc
 
-  made_is : now.made ≡ with_ops was.made (ops_here v did)
+  pub made_is : now.made ≡ with_ops was.made (ops_here v did)
   made_is = by_did did refl
 
   setup_is : now.setup ≡ was.setup

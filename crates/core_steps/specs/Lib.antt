@@ -1,3 +1,3 @@
-pub mod Fetches
 pub mod Works
 pub mod Tries
+pub mod RunsAfter

@@ -1,13 +1,14 @@
 -- What a core's try of the instruction at PC comes to, and what it leaves, in the terms of the course.
 use Rattle.std.specs.Prelude.{ℕ, ◌≡◌, ◌+◌, ◌++◌, nat_lt, nat_le, Bool, List, [], ◌∷◌, fold, map, length, Option, Some, None, if◌then◌else◌}
 use Rattle.core_laws.specs.StepTouches.{attempt_touches}
+use Rattle.core_parts.specs.Completes.{op_of}
 use Rattle.core_parts.specs.CoreValue.{CoreValue, seen_of}
 use Rattle.core_parts.specs.PortState.{arrays_in, touch, answers}
 use Rattle.core_parts.specs.declared.phase.Phase.{Phase}
 use Rattle.lf_model.specs.Course.Attempt.{Attempt, comes_to, attempt}
 use Rattle.lf_model.specs.Course.Outcome.{Outcome, Need, step_needs}
 use Rattle.lf_model.specs.Course.Outcome.Outcome.{NotTried}
-use Rattle.lf_model.specs.Effect.{AccessKind, Access, operation_kind, Effect}
+use Rattle.lf_model.specs.Effect.{AccessKind, Access, Effect}
 use Rattle.lf_model.specs.Run.{effect_at_pc}
 use Rattle.lf_model.specs.State.{State}
 use Rattle.lf_model.specs.Step.{state_of, run_seen, looked, run_after, counted}
@@ -47,20 +48,7 @@ touches_here v did = (if window_over v then [] else attempt_touches v.setup.imag
 
 -- ---- the operation that retires
 
--- the next operation, which an instruction makes by this access: the number that it reads, and the way that it hits
-abbrev pub op_of : CoreValue → Access → ℕ → ℕ → Op
-op_of v x got way = record {
-  got = got;
-  put = x.put;
-  core = v.arch.core;
-  k = length v.ops;
-  step = v.steps;
-  addr = x.addr;
-  kind = operation_kind x.kind;
-  len = x.len;
-  way = way;
-}
-
+-- the way that a look-up hits
 abbrev pub way_looked : Look → ℕ
 way_looked (Hit value way) = way
 way_looked (Miss why) = 0
