@@ -1,13 +1,12 @@
 -- The access that the instruction at PC makes is one to RAM, of 1, 2, 4 or 8 bytes and aligned, and where it stores it touches no text:
 -- with another address the instruction traps, and makes none.
 use Rattle.std.proofs.Common.{◌≡◌, ◌%◌, ◌≤◌, ◌==◌, ◌&&◌, ◌||◌, ℕ, zero, suc, Bool, not, cond, true, false, List, [], ◌∷◌, Option, Some, None, slice_index_or, refl, sym, subst, arith}
-use Rattle.std.specs.Option.{option_or}
 use Rattle.std.proofs.lemmas.Bool.{eqb-true, false≢true}
-use Rattle.lf_model.specs.Alternate.{is_plain_space, alternate_refused, control_effect}
-use Rattle.lf_model.specs.Effect.{Site, AccessKind, Access, Effect, with_reads, sum_of_operands}
+use Rattle.lf_model.specs.Alternate.{is_plain_space, control_effect}
+use Rattle.lf_model.specs.Effect.{Site, AccessKind, Access, with_reads, sum_of_operands}
 use Rattle.lf_model.specs.Effects.{completed, effect}
 use Rattle.lf_model.specs.Instructions.{instruction_of, registers_read}
-use Rattle.lf_model.specs.Memory.{size_of, load_refused, store_refused, access_misaligned, access_refused, output_effect, store_effect, mem_effect}
+use Rattle.lf_model.specs.Memory.{load_refused, store_refused, access_misaligned, access_refused, output_effect, store_effect, mem_effect}
 use Rattle.lf_model.specs.OrdinaryTraps.{checks_of, ordinary_trap}
 use Rattle.lf_model.specs.Run.{site_of, effect_at_pc}
 use Rattle.lf_model.specs.Start.{output_word, is_in_ram, touches_text, is_text_word, word_at}

@@ -1,5 +1,5 @@
 -- A try keeps what holds of the state registers and the parts of a core.
-use Rattle.std.proofs.Common.{◌≡◌, ◌∙◌, ◌+◌, ◌++◌, ◌%◌, ◌==◌, ◌||◌, ℕ, Bool, true, false, nat_le, List, [], ◌∷◌, length, map, fold, Contains, Option, Some, None, IsTrue, if◌then◌else◌, refl, sym, ap, subst, arith}
+use Rattle.std.proofs.Common.{◌≡◌, ◌∙◌, ◌++◌, ℕ, Bool, true, false, nat_le, List, [], ◌∷◌, fold, Option, Some, None, if◌then◌else◌, refl, sym, ap, subst, arith}
 use Rattle.std.specs.List.{AllByRecursion as Each, list_all}
 use Rattle.core_laws.proofs.Aligned.{registers_aligned}
 use Rattle.core_parts.proofs.FormsKept.{HasForms, StoreFits, StoreFitsBy, PutsNone, PutNone, forms_after, step_keeps, try_none, rest_none}
@@ -15,29 +15,25 @@ use Rattle.core_parts.specs.declared.phase.Phase.TheVariants.{Begun}
 use Rattle.core_laws.specs.StepTouches.{attempt_touches}
 use Rattle.core_parts.specs.PortState.{arrays_in}
 use Rattle.core_steps.proofs.AccessFits.{Stores, FitsAt, access_there}
-use Rattle.core_steps.proofs.Tried.{value_at, made_is}
+use Rattle.core_steps.proofs.Tried.{made_is}
 use Rattle.core_steps.proofs.Valued.{setup_after}
 use Rattle.core_steps.proofs.StoresReach.{IsPlaced, Placed, StoresWell, placed_on, can_store_each}
-use Rattle.core_steps.specs.Tries.{ops_here}
 use Rattle.core_steps.specs.Works.{effect_at, touches_at, Works}
 use Rattle.lf_model.proofs.EachLemmas.{each_append, each_weaker}
 use Rattle.lf_model.specs.Course.Core.{is_store_kind}
-use Rattle.lf_model.specs.Course.Touches.{access_touches, barrier_touches, write_touches, retire_touches}
+use Rattle.lf_model.specs.Course.Touches.{access_touches, barrier_touches, write_touches}
 use Rattle.lf_model.specs.Effect.{AccessKind, Access, Effect, operation_kind}
 use Rattle.lf_model.specs.Promise.Regular.{is_regular_op}
 use Rattle.lf_model.specs.Run.{site_of}
-use Rattle.lf_model.specs.Start.{initial_byte, is_in_ram}
+use Rattle.lf_model.specs.Start.{initial_byte}
 use Rattle.lf_model.specs.State.{State}
 use Rattle.lf_model.specs.Step.{state_of}
-use Rattle.lf_model.specs.declared.bus.Pending.{Pending}
 use Rattle.lf_model.specs.declared.control.Arch.{Arch}
 use Rattle.lf_model.specs.declared.setup.Setup.{Setup}
 use Rattle.lf_model.specs.declared.step.Did.{Did}
 use Rattle.lf_model.specs.declared.step.Did.TheVariants.{Retired, Turned, Need, Halt, Stop}
 use Rattle.lf_model.specs.declared.touch.Touch.{Touch}
 use Rattle.lf_model.specs.declared.touch.Touch.TheVariants.{StartStep, LookFetch, ReadCell, WriteCell, LookData, StoreData, FlushCaches, SnoopData, FillFetch, FillData}
-use Rattle.parity_cache.proofs.Bytes.{puts_data}
-use Rattle.parity_cache.specs.Resident.{Holds}
 use Rattle.parity_slots.specs.SlotState.{IsAccess}
 use Rattle.v8_exec.specs.Frame.{Counts}
 use Rattle.v8_exec.specs.Touching.{retires_of}

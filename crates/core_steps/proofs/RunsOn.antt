@@ -1,15 +1,15 @@
 -- A core can run on after a try: it takes room for one step, and one use of the fetch cache, for the step that it is in.
-use Rattle.std.proofs.Common.{◌≡◌, ◌∙◌, ◌+◌, ◌-◌, ◌≤◌, ◌<◌, ℕ, Bool, true, false, cond, List, [], ◌∷◌, fold, min, Option, Some, None, unwrap_or, refl, sym, ap, subst, arith}
+use Rattle.std.proofs.Common.{◌≡◌, ◌∙◌, ◌+◌, ◌≤◌, ℕ, Bool, true, false, cond, List, [], ◌∷◌, fold, Option, Some, None, unwrap_or, sym, ap, subst, arith}
 use Rattle.core_parts.proofs.PortLemmas.{uses_of, look_uses}
-use Rattle.core_parts.proofs.Spares.{AllSpare, spares_touches}
+use Rattle.core_parts.proofs.Spares.{spares_touches}
 use Rattle.core_parts.proofs.Stays.{can_run_on, can_run_looked}
 use Rattle.core_parts.specs.CanRun.{CanRun}
 use Rattle.core_parts.specs.Inside.{state_in, room_in, uses_left}
-use Rattle.core_parts.specs.Work.{WorkState, work_touch, work_answers}
+use Rattle.core_parts.specs.Work.{work_touch}
 use Rattle.core_parts.specs.declared.parts.Parts.{Parts}
 use Rattle.core_steps.specs.RunsAfter.{past_step, RunsAfter}
 use Rattle.lf_model.specs.Caches.Look.{LookUp, look}
-use Rattle.lf_model.specs.Caches.Look.LookUp.{Hit as Hits, Miss as Misses}
+use Rattle.lf_model.specs.Caches.Look.LookUp.{Miss as Misses}
 use Rattle.lf_model.specs.Effect.{AccessKind, Access, Effect}
 use Rattle.lf_model.specs.State.{State}
 use Rattle.lf_model.specs.Step.{Parts as Answers, first_bad, stop_row, trap_row, miss_row, kind_row, access_row, barrier_row, first_row, drains_first, came_to, counted}
@@ -20,7 +20,6 @@ use Rattle.lf_model.specs.declared.step.Did.TheVariants.{Retired, Turned, Need, 
 use Rattle.lf_model.specs.declared.step.Look.{Look}
 use Rattle.lf_model.specs.declared.step.Look.TheVariants.{Hit, Miss}
 use Rattle.lf_model.specs.declared.step.RegBad.{RegBad}
-use Rattle.lf_model.specs.declared.step.Turn.{Turn}
 use Rattle.lf_model.specs.declared.step.Turn.TheVariants.{Fetch, Load, Atomic, Drain, Snoop}
 use Rattle.lf_model.specs.declared.touch.Touch.{Touch}
 use Rattle.parity_cache.specs.CacheState.{CacheState, with_cache}

@@ -1,12 +1,12 @@
 -- A store retires only where the store buffer has room: its try comes to a store, which drains the first that waits where the buffer is
 -- full. So the stores that wait stay within the depth of the buffer.
-use Rattle.std.proofs.Common.{◌≡◌, ◌∙◌, ◌+◌, ◌++◌, ◌<◌, ◌≤◌, ℕ, Bool, true, false, List, [], ◌∷◌, Option, Some, None, length, nat_lt, nat_le, if◌then◌else◌, refl, sym, ap, subst, arith}
+use Rattle.std.proofs.Common.{◌≡◌, ◌∙◌, ◌+◌, ◌<◌, ◌≤◌, ℕ, Bool, true, false, [], ◌∷◌, Option, Some, None, length, nat_lt, nat_le, if◌then◌else◌, refl, ap, subst, arith}
 use Rattle.std.proofs.lemmas.Bool.{leb-false}
-use Rattle.std.proofs.lemmas.List.{append-nil, length-append}
+use Rattle.std.proofs.lemmas.List.{length-append}
 use Rattle.core_parts.specs.CoreValue.{CoreValue}
-use Rattle.core_parts.specs.PortState.{PortState, Waiting, arrays_in}
+use Rattle.core_parts.specs.PortState.{PortState, arrays_in}
 use Rattle.core_steps.specs.Tries.{state_here, effect_here, window_over, try_here, need_here, Tries}
-use Rattle.core_steps.proofs.EffectEnds.{EndsSo, ends_so}
+use Rattle.core_steps.proofs.EffectEnds.{ends_so}
 use Rattle.core_steps.proofs.Outcomes.{Says, Comes, comes}
 use Rattle.core_steps.proofs.Retiring.{open_by, none_open, retired_none}
 use Rattle.core_steps.proofs.TouchesLeave.{store_waiting, waits_as, waiting_tried, waiting_retired}
