@@ -1,5 +1,5 @@
 -- The drain of the store that waits first: its transfer, what it leaves, and its answer.
-use Rattle.std.proofs.Common.{◌≡◌, ◌∙◌, ◌+◌, ◌++◌, ◌≤◌, ◌==◌, ℕ, true, false, IsTrue, not, Option, Result, Ok, Err, List, [], ◌∷◌, Some, None, length, map, drop, cond, refl, ap, sym, arith, if◌then◌else◌}
+use Rattle.std.proofs.Common.{◌≡◌, ◌∙◌, ◌+◌, ◌++◌, ◌<◌, ◌≤◌, ◌==◌, ℕ, true, false, IsTrue, not, Option, Result, Ok, Err, List, [], ◌∷◌, Some, None, length, map, drop, cond, refl, ap, sym, arith, if◌then◌else◌}
 use Rattle.std.proofs.lemmas.Bool.Decides.{nat_tests}
 use Rattle.std.proofs.lemmas.List.{length-append}
 use Rattle.std.specs.Prelude.{slice_get, is_ok, ◌↔◌, IfSome, IsNone, Bool}
@@ -10,6 +10,8 @@ use Rattle.ahb_bus.specs.BusState.{BusState, memory_of, asked_by, answered, stor
 use Rattle.ahb_bus.specs.declared.record.Who.{Who}
 use Rattle.bus_memory.specs.MemoryState.{store_answer}
 use Rattle.core_laws.specs.SeenSoFar.{losing}
+use Rattle.core_parts.specs.IsCore.{CanStore}
+use Rattle.core_parts.specs.Losing.{first_number}
 use Rattle.core_parts.specs.RecordState.{RecordState}
 use Rattle.core_parts.specs.Work.{waiting_in}
 use Rattle.core_parts.specs.declared.parts.Parts.{Parts}
@@ -25,8 +27,8 @@ use Rattle.lf_model.specs.declared.step.Turn.TheVariants.{Drain}
 use Rattle.store_buffer.specs.BufferState.{BufferState}
 use Rattle.core_turns.proofs.Answers.{did_by, drain_answer}
 use Rattle.core_turns.specs.AskedTurn.{asked_drain, turn_answer}
-use Rattle.core_turns.specs.Drains.{CanStore, CanDrain, store_drained, stores_dropped, drained_if}
-use Rattle.core_turns.specs.MakesTurn.{first_number, drained_by}
+use Rattle.core_turns.specs.Drains.{FirstCanStore, store_drained, stores_dropped, drained_if}
+use Rattle.core_turns.specs.MakesTurn.{drained_by}
 
 -- an address of RAM is not 0
 pub in_ram_placed : (ram addr len : ℕ) → IsTrue (is_in_ram ram addr len) → not (addr == 0) ≡ true
@@ -37,9 +39,8 @@ pub record IsFirst (bus : BusState) (who : Who) (why : Why) (ps : List Pending) 
   pub can : CanStore bus.setup p
   pub asked : asked_drain bus who why (map waiting_in ps) ≡ asked_by bus who Store why p.addr 0 p.len
   pub made : drained_by bus who why ps ≡ stored_by who why p bus
-  pub number : first_number ps ≡ p.k
 
-pub first : (bus : BusState) (who : Who) (why : Why) (ps : List Pending) (p : Pending) → Some p ≡ slice_get ps 0 → CanDrain bus.setup ps → IsFirst bus who why ps p
+pub first : (bus : BusState) (who : Who) (why : Why) (ps : List Pending) (p : Pending) → Some p ≡ slice_get ps 0 → FirstCanStore bus.setup ps → IsFirst bus who why ps p
 first bus who why [] p front can = absurd can
 first bus who why (q ∷ ps) p front can = by (ap (λ (o : Option Pending). or_else o) front)
   where
@@ -48,7 +49,7 @@ first bus who why (q ∷ ps) p front can = by (ap (λ (o : Option Pending). or_e
     or_else (Some r) = r
 
     by : p ≡ q → IsFirst bus who why (q ∷ ps) p
-    by same = rw same (record { can = can; asked = refl; made = refl; number = refl })
+    by same = rw same (record { can = can; asked = refl; made = refl })
 
 -- what is left once it is taken out
 pub popped : (old new : BufferState) (p : Pending) → old ≡ record new { waiting = p ∷ new.waiting } → new ≡ record old { waiting = drop 1 old.waiting }
@@ -104,12 +105,9 @@ chosen_first b x y is = rw is refl
 chosen_second : {A : Type 0} (b : Bool) (x y : A) → b ≡ false → (if b then x else y) ≡ y
 chosen_second b x y is = rw is refl
 
-pub parts_lost : (enters : Bool) (old new : Parts) (n : ℕ) → enters ≡ false → first_number old.buffer.waiting ≡ n
-    → new ≡ record old { buffer = record old.buffer { waiting = [] }; «record» = record old.«record» { ops = losing n old.«record».ops } } → new ≡ drained_if enters old
-parts_lost enters old new n lost number is =
-    is
-    ∙ ap (λ n. record old { buffer = record old.buffer { waiting = [] }; «record» = record old.«record» { ops = losing n old.«record».ops } }) (sym number)
-    ∙ sym (chosen_second enters (store_drained old) (stores_dropped old) lost)
+pub parts_lost : (enters : Bool) (old new : Parts) → enters ≡ false
+    → new ≡ record old { buffer = record old.buffer { waiting = [] }; «record» = record old.«record» { ops = losing (first_number old.buffer.waiting) old.«record».ops } } → new ≡ drained_if enters old
+parts_lost enters old new lost is = is ∙ sym (chosen_second enters (store_drained old) (stores_dropped old) lost)
 
 pub parts_drained : (enters : Bool) (old : Parts) (buffer : BufferState) (r : RecordState) → enters ≡ true
     → buffer ≡ record old.buffer { waiting = drop 1 old.buffer.waiting } → r ≡ record old.«record» { seen = old.«record».seen + 1 }
@@ -119,8 +117,13 @@ parts_drained enters old buffer r reached left seen =
     ∙ ap (λ r. record old { buffer = record old.buffer { waiting = drop 1 old.buffer.waiting }; «record» = r }) seen
     ∙ sym (chosen_first enters (store_drained old) (stores_dropped old) reached)
 
+-- where the first can drain, one waits
+pub some_wait : (setup : Setup) (ps : List Pending) → FirstCanStore setup ps → 0 < length ps
+some_wait setup [] can = absurd can
+some_wait setup (p ∷ ps) can = omega arith
+
 -- where a store waits, one is found
-pub none_waits : (setup : Setup) (ps : List Pending) (r : Option Pending) → r ≡ None → (IsNone r ↔ (ps ≡ [])) → CanDrain setup ps → ⊥
+pub none_waits : (setup : Setup) (ps : List Pending) (r : Option Pending) → r ≡ None → (IsNone r ↔ (ps ≡ [])) → FirstCanStore setup ps → ⊥
 none_waits setup [] r none empty can = can
 none_waits setup (p ∷ ps) None none empty can = let e : p ∷ ps ≡ [] = empty.0 refl in absurd cc
 none_waits setup (p ∷ ps) (Some q) none empty can = absurd cc

@@ -71,7 +71,7 @@ module _ (g : Ground) (seat : Progress) (v : CoreValue) (log : List Entry) (t : 
     exchanges kind placed enters at one_each =
         let seen : length log + 1 ≡ seen_with t here = sym (seen_all g seat v log t h ∙ rw enters refl) in
         record {
-          steps = rw (h.limit, h.is_seat.steps) refl;
+          steps = refl;
           quiet = refl;
           counted = refl;
           run = run_after;

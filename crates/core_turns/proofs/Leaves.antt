@@ -73,7 +73,7 @@ module _ (g : Ground) (seat : Progress) (v : CoreValue) (log : List Entry) (t : 
   leaves : (p : PortState) (n : ℕ) → n ≡ seen_with t here → arrays_in p ≡ (own_turn g t here).arrays
       → length p.waiting + from_bool (same_kind t.kind Store) ≡ length v.ports.waiting → Turns g here t v (ended (with_ports p n))
   leaves p n seen arrays waits = record {
-    steps = rw (h.limit, h.is_seat.steps) refl;
+    steps = refl;
     quiet = refl;
     counted = refl;
     run = run_stays v.ops refl p n;
@@ -106,7 +106,7 @@ module _ (g : Ground) (seat : Progress) (v : CoreValue) (log : List Entry) (t : 
     stops : (p : PortState) → arrays_in p ≡ (own_turn g t here).arrays → enters_log t ≡ false → p.waiting ≡ v.ports.waiting
         → from_bool (same_kind t.kind Store) ≡ 0 → StopsAtTurn g here t j tt_ syn v (ended (with_ports p (length log)))
     stops p arrays none waits no_drain = record {
-      steps = rw (h.limit, h.is_seat.steps) refl;
+      steps = refl;
       quiet = refl;
       counted = refl;
       run = run_stays v.ops refl p (length log);
@@ -135,7 +135,7 @@ module _ (g : Ground) (seat : Progress) (v : CoreValue) (log : List Entry) (t : 
     pub drain_stops : (n : ℕ) → t.kind ≡ Store → has_address t ≡ true → enters_log t ≡ false
         → StopsAtTurn g here t j tt_ syn v (ended (stores_lost n (snooping log v)))
     drain_stops n kind placed refused = record {
-      steps = rw (h.limit, h.is_seat.steps) refl;
+      steps = refl;
       quiet = refl;
       counted = refl;
       run = run_stays (losing n v.ops) (lost_made n v.ops) (record v.ports { data_cache = (snooping log v).ports.data_cache; waiting = [] }) (length log);

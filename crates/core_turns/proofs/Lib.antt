@@ -7,3 +7,9 @@ pub mod Needed
 pub mod DrainLemmas
 pub mod RetiredAtomic
 pub mod ExchangeAnswers
+pub mod TextLine
+pub mod CoreKept
+pub mod CaughtUp
+pub mod RunsOn
+pub mod AtomicKept
+pub mod Transferring

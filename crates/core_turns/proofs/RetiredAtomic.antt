@@ -19,7 +19,7 @@ use Rattle.core_turns.specs.AfterTurn.{exchanged}
 use Rattle.core_turns.specs.Exchanging.{entry_seen}
 
 -- cells are written, and nothing else changes
-cells_written : (cells : List ℕ) (w : WorkState) → fold work_touch w (write_touches cells) ≡ record w { ports = record w.ports { cells = befalls_each written cells w.ports.cells } }
+pub cells_written : (cells : List ℕ) (w : WorkState) → fold work_touch w (write_touches cells) ≡ record w { ports = record w.ports { cells = befalls_each written cells w.ports.cells } }
 cells_written [] w = refl
 cells_written (c ∷ cells) w = cells_written cells (record w { ports = record w.ports { cells = befalls_each written (c ∷ []) w.ports.cells } })
 

@@ -26,7 +26,6 @@ pub record BeforeTurn (g : Ground) (seat : Progress) (v : CoreValue) (log : List
   pub is_seat : IsSeat v g seat
   pub setup : g.setup ≡ v.setup
   pub core : g.core ≡ v.arch.core
-  pub limit : g.steps ≡ v.setup.config.steps
   pub going : halt_by v.phase ≡ None
   pub within : v.log_seen ≤ length log
   pub tried : arrays_in v.ports ≡ (turn_attempt g why (next_effect g seat) seat).arrays

@@ -1,25 +1,16 @@
 -- The drain of the store that has waited longest: what it asks, and what it leaves.
-use Rattle.std.specs.Prelude.{◌≡◌, ◌+◌, ◌*◌, ◌%◌, ◌^◌, ◌<◌, true, false, Bool, IsTrue, List, [], ◌∷◌, drop, if◌then◌else◌}
+use Rattle.std.specs.Prelude.{◌+◌, Bool, List, [], ◌∷◌, drop, if◌then◌else◌}
 use Rattle.core_laws.specs.SeenSoFar.{losing}
+use Rattle.core_parts.specs.IsCore.{CanStore}
+use Rattle.core_parts.specs.Losing.{first_number}
 use Rattle.core_parts.specs.declared.parts.Parts.{Parts}
-use Rattle.lf_model.specs.Promise.Regular.{is_length}
-use Rattle.lf_model.specs.Start.{is_in_ram, touches_text}
 use Rattle.lf_model.specs.declared.bus.Pending.{Pending}
 use Rattle.lf_model.specs.declared.setup.Setup.{Setup}
-use Rattle.core_turns.specs.MakesTurn.{first_number}
-
--- a store of RAM that changes no text
-pub record CanStore (setup : Setup) (p : Pending) : Type 0 where
-  pub size : is_length p.len ≡ true
-  pub in_ram : IsTrue (is_in_ram setup.config.ram p.addr p.len)
-  pub aligned : p.addr % p.len ≡ 0
-  pub value : p.value < 2 ^ (8 * p.len)
-  pub text : touches_text setup.image.text p.addr p.len ≡ false
 
 -- a store waits, and the first can drain
-abbrev pub CanDrain : Setup → List Pending → Type 0
-CanDrain setup [] = ⊥
-CanDrain setup (p ∷ ps) = CanStore setup p
+abbrev pub FirstCanStore : Setup → List Pending → Type 0
+FirstCanStore setup [] = ⊥
+FirstCanStore setup (p ∷ ps) = CanStore setup p
 
 -- ---- the parts of the core after it
 

@@ -5,3 +5,6 @@ pub mod MakesTurn
 pub mod CatchingUp
 pub mod Drains
 pub mod Exchanging
+pub mod CanTurn
+pub mod Filling
+pub mod Transfers

@@ -4,6 +4,7 @@ use Rattle.ahb_bus.specs.BusState.{BusState, memory_of, part_of, after_turn, sto
 use Rattle.ahb_bus.specs.declared.record.Who.{Who}
 use Rattle.bus_memory.specs.MemoryState.{line_shown, value_at}
 use Rattle.core_parts.specs.CoreValue.{CoreValue}
+use Rattle.core_parts.specs.Losing.{first_number}
 use Rattle.lf_model.specs.Bus.Words.{word_of}
 use Rattle.lf_model.specs.declared.bus.Pending.{Pending}
 use Rattle.lf_model.specs.declared.bus.Why.{Why}
@@ -28,15 +29,13 @@ number_read bus Snoop = 0
 
 -- ---- the core
 
--- the number of the operation that drains, the first of these that wait
-abbrev pub first_number : List Pending → ℕ
-first_number [] = 0
-first_number (p ∷ ps) = p.k
+-- its transfer is made
+abbrev pub transferred_by : BusState → Turn → List Pending → CoreValue → CoreValue
+transferred_by bus turn pending v = let t = transfer_of v bus turn in transferred t (words_at bus t.addr) (number_read bus turn) (first_number pending) turn v
 
 -- the core catches up with the log, and its transfer is made
 abbrev pub core_after : BusState → Turn → List Pending → CoreValue → CoreValue
-core_after bus turn pending v = let ready = snooping bus.log v in let t = transfer_of ready bus turn in
-    transferred t (words_at bus t.addr) (number_read bus turn) (first_number pending) turn ready
+core_after bus turn pending v = transferred_by bus turn pending (snooping bus.log v)
 
 -- ---- the bus
 

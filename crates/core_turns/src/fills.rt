@@ -1,17 +1,15 @@
-ghost use Rattle.std.specs.Prelude.{◌≡◌, ℕ, ◌+◌, ◌%◌, ◌^◌, ◌<◌, [], true, IsTrue};
-ghost use Rattle.ahb_bus.specs.Asks.{IsCoreTurn, IsCauseOf};
+ghost use Rattle.std.specs.Prelude.{◌≡◌, ℕ, ◌+◌, ◌%◌, ◌^◌, ◌<◌, true};
+ghost use Rattle.ahb_bus.specs.Asks.{IsCoreTurn};
 ghost use Rattle.ahb_bus.specs.BusOk.{BusOk};
-ghost use Rattle.ahb_bus.specs.BusState.{memory_of, answered, after_turn};
+ghost use Rattle.ahb_bus.specs.BusState.{memory_of};
 ghost use Rattle.bus_memory.specs.MemoryState.{line_shown};
 ghost use Rattle.lf_model.specs.Caches.Slot.{line_of};
-ghost use Rattle.lf_model.specs.Start.{is_in_ram};
 ghost use Rattle.lf_model.specs.declared.bus.TurnKind.TheVariants.{Fetch, Load};
 ghost use Rattle.lf_model.specs.declared.step.Turn.TheVariants as turns;
-ghost use Rattle.parity_cache.specs.CacheState.{filled_cache, IsCleanSet};
 ghost use Rattle.parity_slots.specs.SlotState.{IsAccess};
-ghost use Rattle.core_turns.specs.AfterTurn.{text_valid, data_valid};
-ghost use Rattle.core_turns.specs.AskedTurn.{asked_fill, turn_answer};
-ghost use Rattle.core_turns.specs.MakesTurn.{words_at};
+ghost use Rattle.core_turns.specs.AskedTurn.{turn_answer};
+ghost use Rattle.core_turns.specs.CanTurn.{CanFill};
+ghost use Rattle.core_turns.specs.Filling.{fill_of, bus_filled, text_filled, data_filled, fetch_filled, load_filled};
 
 use ahb_bus::{Bus, Who};
 use core_parts::{Parts, Site, good_text_words, good_wanted, good_words};
@@ -29,16 +27,14 @@ fn fill_text(
     line: u32,
 ) -> Line
     requires begun { bus.old.begun ≡ true }
-    requires ok { BusOk bus.old }
     requires turn { IsCoreTurn who bus.old }
-    requires cause { IsCauseOf Fetch why }
-    requires in_ram { IsTrue (is_in_ram bus.old.setup.config.ram line 32) }
+    requires ok { BusOk bus.old }
+    requires fill { CanFill bus.old.setup Fetch why line cache.old.cache }
     requires aligned { line % 32 ≡ 0 }
-    requires clean { IsCleanSet line cache.old.cache }
     requires uses { cache.old.cache.uses + 1 < 2 ^ 32 }
     ensures line { result ≡ line_shown (memory_of bus.old) line }
-    ensures filled { cache.new ≡ filled_cache line (text_valid site.now.image (answered bus.old (asked_fill bus.old who Fetch why line cache.old.cache))) (words_at bus.old line) cache.old }
-    ensures made { bus.new ≡ after_turn (asked_fill bus.old who Fetch why line cache.old.cache) [] bus.old.values bus.old }
+    ensures filled { cache.new ≡ text_filled bus.old who why line site.now.image cache.old }
+    ensures made { bus.new ≡ bus_filled bus.old who Fetch why line cache.old }
     ensures ok { BusOk bus.new }
 {
     let way = cache.victim(line);
@@ -51,16 +47,14 @@ fn fill_text(
 /// Fills a line of the data cache, at a multiple of 32 in RAM.
 fn fill_data(cache: &mut ParityCache, bus: &mut Bus, who: Who, why: Why, line: u32) -> Line
     requires begun { bus.old.begun ≡ true }
-    requires ok { BusOk bus.old }
     requires turn { IsCoreTurn who bus.old }
-    requires cause { IsCauseOf Load why }
-    requires in_ram { IsTrue (is_in_ram bus.old.setup.config.ram line 32) }
+    requires ok { BusOk bus.old }
+    requires fill { CanFill bus.old.setup Load why line cache.old.cache }
     requires aligned { line % 32 ≡ 0 }
-    requires clean { IsCleanSet line cache.old.cache }
     requires uses { cache.old.cache.uses + 1 < 2 ^ 32 }
     ensures line { result ≡ line_shown (memory_of bus.old) line }
-    ensures filled { cache.new ≡ filled_cache line (data_valid (answered bus.old (asked_fill bus.old who Load why line cache.old.cache))) (words_at bus.old line) cache.old }
-    ensures made { bus.new ≡ after_turn (asked_fill bus.old who Load why line cache.old.cache) [] bus.old.values bus.old }
+    ensures filled { cache.new ≡ data_filled bus.old who why line cache.old }
+    ensures made { bus.new ≡ bus_filled bus.old who Load why line cache.old }
     ensures ok { BusOk bus.new }
 {
     let way = cache.victim(line);
@@ -76,21 +70,16 @@ fn fill_data(cache: &mut ParityCache, bus: &mut Bus, who: Who, why: Why, line: u
 /// The word at `pc` is bad.
 pub fn fetch(pc: u32, who: Who, parts: &mut Parts, bus: &mut Bus, why: Why) -> Result<Did, Bad>
     requires begun { bus.old.begun ≡ true }
-    requires ok { BusOk bus.old }
     requires turn { IsCoreTurn who bus.old }
-    requires cause { IsCauseOf Fetch why }
-    requires in_ram { IsTrue (is_in_ram bus.old.setup.config.ram (line_of pc) 32) }
+    requires ok { BusOk bus.old }
+    requires fill { CanFill bus.old.setup Fetch why (line_of pc) parts.old.arrays.fetch_cache.cache }
     requires access { IsAccess pc 4 }
-    requires clean { IsCleanSet (line_of pc) parts.old.arrays.fetch_cache.cache }
     requires uses { parts.old.arrays.fetch_cache.cache.uses + 1 < 2 ^ 32 }
-    ensures filled { parts.new ≡ record parts.old {
-      arrays = record parts.old.arrays {
-        fetch_cache = filled_cache (line_of pc) (text_valid parts.old.site.image (answered bus.old (asked_fill bus.old who Fetch why (line_of pc) parts.old.arrays.fetch_cache.cache))) (words_at bus.old (line_of pc)) parts.old.arrays.fetch_cache;
-      };
-    } }
-    ensures made { bus.new ≡ after_turn (asked_fill bus.old who Fetch why (line_of pc) parts.old.arrays.fetch_cache.cache) [] bus.old.values bus.old }
-    ensures answer { result ≡ turn_answer pc (turns.Fetch (line_of pc) why) (answered bus.old (asked_fill bus.old who Fetch why (line_of pc) parts.old.arrays.fetch_cache.cache)) }
+    ensures filled { parts.new ≡ fetch_filled bus.old who why pc parts.old }
+    ensures made { bus.new ≡ bus_filled bus.old who Fetch why (line_of pc) parts.old.arrays.fetch_cache }
+    ensures answer { result ≡ turn_answer pc (turns.Fetch (line_of pc) why) (fill_of bus.old who Fetch why (line_of pc) parts.old.arrays.fetch_cache) }
     ensures ok { BusOk bus.new }
+    ensures address { pc < 2 ^ 32 }
 {
     let line = pc - pc % 32;
     let got = fill_text(
@@ -119,20 +108,14 @@ pub fn load(
     why: Why,
 ) -> Result<Did, Bad>
     requires begun { bus.old.begun ≡ true }
-    requires ok { BusOk bus.old }
     requires turn { IsCoreTurn who bus.old }
-    requires cause { IsCauseOf Load why }
-    requires in_ram { IsTrue (is_in_ram bus.old.setup.config.ram (line_of addr) 32) }
+    requires ok { BusOk bus.old }
+    requires fill { CanFill bus.old.setup Load why (line_of addr) parts.old.arrays.data_cache.cache }
     requires access { IsAccess addr len }
-    requires clean { IsCleanSet (line_of addr) parts.old.arrays.data_cache.cache }
     requires uses { parts.old.arrays.data_cache.cache.uses + 1 < 2 ^ 32 }
-    ensures filled { parts.new ≡ record parts.old {
-      arrays = record parts.old.arrays {
-        data_cache = filled_cache (line_of addr) (data_valid (answered bus.old (asked_fill bus.old who Load why (line_of addr) parts.old.arrays.data_cache.cache))) (words_at bus.old (line_of addr)) parts.old.arrays.data_cache;
-      };
-    } }
-    ensures made { bus.new ≡ after_turn (asked_fill bus.old who Load why (line_of addr) parts.old.arrays.data_cache.cache) [] bus.old.values bus.old }
-    ensures answer { (pc : ℕ) → result ≡ turn_answer pc (turns.Load addr len why) (answered bus.old (asked_fill bus.old who Load why (line_of addr) parts.old.arrays.data_cache.cache)) }
+    ensures filled { parts.new ≡ load_filled bus.old who why addr parts.old }
+    ensures made { bus.new ≡ bus_filled bus.old who Load why (line_of addr) parts.old.arrays.data_cache }
+    ensures answer { (pc : ℕ) → result ≡ turn_answer pc (turns.Load addr len why) (fill_of bus.old who Load why (line_of addr) parts.old.arrays.data_cache) }
     ensures ok { BusOk bus.new }
 {
     let line = addr - addr % 32;

@@ -7,7 +7,7 @@ ghost use Rattle.lf_model.specs.Course.Syndromes.{enters_log};
 ghost use Rattle.lf_model.specs.declared.bus.TurnKind.TheVariants.{Store};
 ghost use Rattle.lf_model.specs.declared.step.Turn.TheVariants as turns;
 ghost use Rattle.core_turns.specs.AskedTurn.{asked_drain, turn_answer};
-ghost use Rattle.core_turns.specs.Drains.{CanDrain, drained_if};
+ghost use Rattle.core_turns.specs.Drains.{FirstCanStore, drained_if};
 ghost use Rattle.core_turns.specs.MakesTurn.{drained_by};
 
 use ahb_bus::{Bus, Who};
@@ -26,7 +26,7 @@ pub fn drain(who: Who, parts: &mut Parts, bus: &mut Bus, why: Why) -> Result<Did
     requires turn { IsCoreTurn who bus.old }
     requires entry { HasEntryLeft who bus.old }
     requires cause { IsCauseOf Store why }
-    requires waits { CanDrain bus.old.setup parts.old.buffer.waiting }
+    requires waits { FirstCanStore bus.old.setup parts.old.buffer.waiting }
     requires seen { parts.old.«record».seen ≡ length bus.old.log }
     ensures parts { parts.new ≡ drained_if (enters_log (answered bus.old (asked_drain bus.old who why (map waiting_in parts.old.buffer.waiting)))) parts.old }
     ensures made { bus.new ≡ drained_by bus.old who why parts.old.buffer.waiting }
@@ -37,7 +37,7 @@ pub fn drain(who: Who, parts: &mut Parts, bus: &mut Bus, why: Why) -> Result<Did
         unreachable!()
     };
     if let Err(bad) = bus.store(who, why, &store) {
-        parts.lose_waiting(store.k);
+        parts.lose_waiting();
         return Err(bad);
     }
     parts.buffer.pop();

@@ -7,6 +7,9 @@ use Rattle.core_turns.proofs.Answers.{fill_good, fill_met}
 use Rattle.core_turns.proofs.fills.fetch.Goals as goal
 use Rattle.core_turns.specs.AskedTurn.{asked_fill}
 
+pub fill_text-got-requires-clause-fill : goal.fill_text-got-requires-clause-fill
+fill_text-got-requires-clause-fill c = c.requires.fill
+
 pub returns-in_err-good_wanted-clause-filled : goal.returns-in_err-good_wanted-clause-filled
 returns-in_err-good_wanted-clause-filled c = ap (λ cache. record c.args.parts.now { arrays = record c.args.parts.now.arrays { fetch_cache = cache } }) c.fill_text-got.ensures.filled
 

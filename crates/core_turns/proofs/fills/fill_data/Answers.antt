@@ -22,3 +22,12 @@ pub returns-clause-made : goal.returns-clause-made
 returns-clause-made c =
     c.fill-got.ensures.made
     ∙ ap (λ way. after_turn (asked_by c.args.bus.now c.args.who Load c.args.why c.args.line way 0) [] c.args.bus.now.values c.args.bus.now) c.victim-way.ensures
+
+pub victim-way-requires : goal.victim-way-requires
+victim-way-requires c = c.requires.fill.clean
+
+pub fill-got-requires-clause-cause : goal.fill-got-requires-clause-cause
+fill-got-requires-clause-cause c = c.requires.fill.cause
+
+pub fill-got-requires-clause-in_ram : goal.fill-got-requires-clause-in_ram
+fill-got-requires-clause-in_ram c = c.requires.fill.in_ram

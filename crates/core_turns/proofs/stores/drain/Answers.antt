@@ -1,6 +1,6 @@
 use Rattle.std.proofs.Common.{◌∙◌, ◌+◌, Ok, Err, length, sym, ap}
 use Rattle.ahb_bus.specs.BusState.{BusState}
-use Rattle.core_turns.proofs.DrainLemmas.{IsFirst, first, enters, lost, answers, log_longer, taken_out, parts_lost, parts_drained, none_waits}
+use Rattle.core_turns.proofs.DrainLemmas.{IsFirst, first, enters, lost, answers, log_longer, taken_out, parts_lost, parts_drained, some_wait, none_waits}
 use Rattle.core_turns.proofs.stores.drain.Goals as goal
 
 pub unreachable-requires : goal.unreachable-requires
@@ -36,10 +36,13 @@ store-requires-clause-value c = (first c.args.bus.now c.args.who c.args.why c.ar
 pub store-requires-clause-text : goal.store-requires-clause-text
 store-requires-clause-text c = (first c.args.bus.now c.args.who c.args.why c.args.parts.now.buffer.waiting c.in-Some.store (sym c.in-Some.is ∙ c.front.ensures.oldest) c.requires.waits).can.text
 
+pub lose_waiting-requires : goal.lose_waiting-requires
+lose_waiting-requires c = record { some = some_wait c.args.bus.now.setup c.args.parts.now.buffer.waiting c.requires.waits }
+
 pub returns-in-Err-clause-parts : goal.returns-in-Err-clause-parts
 returns-in-Err-clause-parts c =
     let h : IsFirst c.args.bus.now c.args.who c.args.why c.args.parts.now.buffer.waiting c.in-Some.store = first c.args.bus.now c.args.who c.args.why c.args.parts.now.buffer.waiting c.in-Some.store (sym c.in-Some.is ∙ c.front.ensures.oldest) c.requires.waits in
-    parts_lost _ c.args.parts.now c.lose_waiting.new.self c.in-Some.store.k (lost c.args.bus.now c.args.who c.args.why c.args.parts.now.buffer.waiting c.in-Some.store c.requires.ok h c.in-Err.bad (sym c.in-Err.is ∙ c.store.ensures.answer)) h.number c.lose_waiting.ensures
+    parts_lost _ c.args.parts.now c.lose_waiting.new.self (lost c.args.bus.now c.args.who c.args.why c.args.parts.now.buffer.waiting c.in-Some.store c.requires.ok h c.in-Err.bad (sym c.in-Err.is ∙ c.store.ensures.answer)) c.lose_waiting.ensures.lost
 
 pub returns-in-Err-clause-made : goal.returns-in-Err-clause-made
 returns-in-Err-clause-made c = c.store.ensures.made ∙ sym (first c.args.bus.now c.args.who c.args.why c.args.parts.now.buffer.waiting c.in-Some.store (sym c.in-Some.is ∙ c.front.ensures.oldest) c.requires.waits).made
