@@ -1,0 +1,12 @@
+pub mod CoreEvents
+pub mod AllEvents
+pub mod Rounds
+pub mod MachineEvents
+pub mod ScrubEvents
+pub mod ScheduleLoops
+pub mod OwnShares
+pub mod AtEnd
+pub mod ScheduleFollows
+pub mod DrainsCounted
+pub mod StoresKept
+pub mod NeedsUnscheduled

@@ -1,0 +1,4 @@
+pub mod MachineValue
+pub mod CoreMade
+pub mod MachineMade
+pub mod LeftOver
