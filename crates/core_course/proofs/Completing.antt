@@ -1,6 +1,6 @@
 -- What a core has seen of memory order as an instruction retires, and the stores that wait then.
 use Rattle.std.proofs.Common.{◌≡◌, ◌∙◌, ◌-◌, ◌++◌, ℕ, Bool, true, List, [], ◌∷◌, length, drop, map, filter, refl, ap, sym, subst, arith, if◌then◌else◌}
-use Rattle.std.proofs.lemmas.List.{drop_at, length-append, length-map, map-append}
+use Rattle.std.proofs.lemmas.List.{drop_at, length-append, length-map, map-append, nil_from_length}
 use Rattle.core_laws.proofs.SeenRetired.{seen_load, seen_store}
 use Rattle.core_laws.specs.SeenSoFar.{HasSeenSoFar}
 use Rattle.core_laws.specs.StepsSoFar.{HasStepsSoFar}
@@ -45,6 +45,10 @@ module _ (v : CoreValue) (log : List Entry) (ts : List Transfer) (buffer : List 
     lines = subst (LinesAre v log) (sym buffer_is) lines;
     unnamed = unnamed;
   }
+
+-- none where the store buffer is empty
+pub none_buffered : (v : CoreValue) (log : List Entry) (ts : List Transfer) → GoesOn v log ts → length v.ports.waiting ≡ 0 → buffer_of v ≡ []
+none_buffered v log ts h none = nil_from_length (buffer_of v) (omega (arith, none, ap length h.waits, length-map (buffer_of v) waiting_of))
 
 -- ---- an instruction retires
 

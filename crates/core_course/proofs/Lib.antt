@@ -7,7 +7,6 @@ pub mod Ended
 pub mod LaterSeat
 pub mod Reaches
 pub mod StepParts
-pub mod Begins
 pub mod Completing
 pub mod LocalGround
 pub mod LocalSteps
@@ -32,8 +31,14 @@ pub mod Answering
 pub mod Joined
 pub mod PortLines
 pub mod StepLines
-pub mod TurnLines
 pub mod NoneWaits
 pub mod HitReads
 pub mod HitNumber
-pub mod FillBytes
+pub mod StartKeeps
+pub mod Tried
+pub mod RetiresAs
+pub mod CachesTake
+pub mod LocalNeeds
+pub mod LocalRetires
+pub mod LocalStops
+pub mod LocalKeeps

@@ -12,13 +12,13 @@ use Rattle.core_laws.specs.Running.{IsNoStop}
 use Rattle.core_parts.specs.CoreValue.{CoreValue}
 use Rattle.core_parts.specs.Moves.{tried_at, Retires, Stops}
 use Rattle.core_parts.specs.Seat.{IsSeat}
-use Rattle.core_parts.specs.declared.phase.Phase.TheVariants.{Between, Ended}
+use Rattle.core_parts.specs.declared.phase.Phase.TheVariants.{Begun, Ended}
 use Rattle.core_course.proofs.Completing.{Sees}
 use Rattle.core_course.proofs.Ended.{ground_ended, holds_ended}
 use Rattle.core_course.proofs.LaterSeat.{Reaches}
-use Rattle.core_course.proofs.LocalGround.{place_of, ground_with, now, ground_new, limit_new, reaches_then, own_then}
+use Rattle.core_course.proofs.LocalGround.{place_of, ground_with, now, ground_new, limit_new, flips_new, reaches_then, own_then}
 use Rattle.core_course.proofs.LocalSeat.{halted}
-use Rattle.core_course.proofs.Reaches.{going, seat_between, one_step}
+use Rattle.core_course.proofs.Reaches.{going, seat_begun, one_step}
 use Rattle.core_course.proofs.Running.{ground_running, RunsOn}
 use Rattle.core_course.proofs.StopSeat.{stopped_by_cell}
 use Rattle.core_parts.specs.Completes.{KeepsTurns}
@@ -36,25 +36,25 @@ use Rattle.lf_model.specs.declared.trace.CoreEnd.{CoreEnd}
 use Rattle.lf_model.specs.declared.trace.CoreEnd.TheVariants.{Halt, Stop}
 use Rattle.lf_model.specs.declared.trace.Op.{Op}
 
-module _ (old new : CoreValue) (log : List Entry) (ts : List Transfer) (more : List Op) (h : CoreOk old log ts) (between : old.phase ≡ Between)
+module _ (old new : CoreValue) (log : List Entry) (ts : List Transfer) (more : List Op) (h : CoreOk old log ts) (begun : old.phase ≡ Begun)
     (left : old.steps < old.setup.config.steps) (keeps : KeepsTurns old new) (ops : new.ops ≡ old.ops ++ more) (made : new.steps ≡ old.steps + 1) where
   here : RunsOn old log ts
-  here = now old new log ts more h between left keeps ops
+  here = now old new log ts more h begun left keeps ops
 
   -- the ground by an end in this step
   abbrev ground : CoreEnd → Ground
   ground end = ground_ended new end
 
   ground_is : (end : CoreEnd) → ground end ≡ ground_with old more end new.steps
-  ground_is end = ground_new old new log ts more h between left keeps ops end new.steps
+  ground_is end = ground_new old new log ts more h begun left keeps ops end new.steps
 
   module _ (end : CoreEnd) (no_stop : Each (IsNoStop old.arch.core end) ts) where
     come_before : Reaches (ground end) ts old.steps (place_of old ts)
     come_before = subst (λ g. Reaches g ts old.steps (place_of old ts)) (sym (ground_is end))
-        (reaches_then old new log ts more h between left keeps ops end new.steps (omega (arith, made, left)) no_stop (omega (arith, made)))
+        (reaches_then old new log ts more h begun left keeps ops end new.steps (omega (arith, made, left)) no_stop (omega (arith, made)))
 
     come : Reaches (ground end) ts new.steps (local_step (ground end) (place_of old ts))
-    come = one_step (ground end) ts old.steps new.steps (place_of old ts) come_before made (going old log ts here between)
+    come = one_step (ground end) ts old.steps new.steps (place_of old ts) come_before made (going old log ts here begun)
 
     -- the core ends so, with no store waiting, and none of its transfers is the place of its end
     ends : IsSeat new (ground end) (local_step (ground end) (place_of old ts)) → new.phase ≡ Ended end → new.log_seen ≡ old.log_seen → Sees old new log []
@@ -66,9 +66,9 @@ module _ (old new : CoreValue) (log : List Entry) (ts : List Transfer) (more : L
       reaches = come;
       is_seat = seated;
       is_end = rw keeps.parts.setup is_end;
-      within = omega (arith, made, left, limit_new old new log ts more h between left keeps ops);
+      within = omega (arith, made, left, limit_new old new log ts more h begun left keeps ops);
       none_wait = sees.waits;
-      has_steps = rw (keeps.parts.setup, own_then old new log ts more h between left keeps ops) steps;
+      has_steps = rw (keeps.parts.setup, own_then old new log ts more h begun left keeps ops) steps;
       has_seen = rw (keeps.parts.setup, keeps.parts.core) (seen_end _ old.arch.core new.ops new.seen_by log sees.has_seen);
       none_lost = λ kind. sees.has_seen.none_lost;
       lost = rw no_store (sym (reports_none new.ops sees.has_seen.none_lost));
@@ -79,9 +79,9 @@ module _ (old new : CoreValue) (log : List Entry) (ts : List Transfer) (more : L
   pub halts : (tt_ : ℕ) → next_needs (ground_running old) (place_of old ts) (tried_at (ground_running old) (place_of old ts)).outcome ≡ NoTurn
       → Retires (ground_ended new (Halt tt_)) (place_of old ts) old new → new.phase ≡ Ended (Halt tt_) → Sees old new log [] → CoreOk new log ts
   halts tt_ none r phase sees = ends (Halt tt_) (no_stop_at_halt old.arch.core tt_ ts)
-      (halted (ground (Halt tt_)) (place_of old ts) old new tt_ (seat_between old (ground_running old) (ground (Halt tt_)) (place_of old ts) between here.is_seat)
+      (halted (ground (Halt tt_)) (place_of old ts) old new tt_ (seat_begun old (ground_running old) (ground (Halt tt_)) (place_of old ts) begun (flips_new old new log ts more h begun left keeps ops (Halt tt_) new.steps) here.is_seat)
       (record {
-        between = between;
+        begun = begun;
         none = subst (λ g. next_needs g (place_of old ts) (tried_at g (place_of old ts)).outcome ≡ NoTurn) (sym (ground_is (Halt tt_))) none;
         goes_on = refl;
       }) r phase)
@@ -94,9 +94,9 @@ module _ (old new : CoreValue) (log : List Entry) (ts : List Transfer) (more : L
       → Stops (ground_ended new (Stop r_register_access_error cell syn)) (place_of old ts) cell syn old new → new.phase ≡ Ended (Stop r_register_access_error cell syn)
       → Sees old new log [] → CoreOk new log ts
   stops cell syn needs r phase sees = let end = Stop r_register_access_error cell syn in ends end (no_stop_at_register old.arch.core end ts refl)
-      (stopped_by_cell (ground end) old new (place_of old ts) cell syn (seat_between old (ground_running old) (ground end) (place_of old ts) between here.is_seat)
+      (stopped_by_cell (ground end) old new (place_of old ts) cell syn (seat_begun old (ground_running old) (ground end) (place_of old ts) begun (flips_new old new log ts more h begun left keeps ops end new.steps) here.is_seat)
       (record {
-        between = between;
+        begun = begun;
         stops = subst (λ g. next_needs g (place_of old ts) (tried_at g (place_of old ts)).outcome ≡ RegisterStop cell) (sym (ground_is end)) needs;
         is_last = eq-eqb ((place_of old ts).steps + 1) new.steps (ap (λ n. n + 1) here.is_seat.steps ∙ sym made);
       }) r phase)

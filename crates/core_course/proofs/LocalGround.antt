@@ -1,5 +1,5 @@
--- A core as it makes a step without a turn: the ground that it has after it, and its transfers by then.
-use Rattle.std.proofs.Common.{◌≡◌, ◌∙◌, ◌+◌, ◌<◌, ◌≤◌, ◌++◌, ℕ, List, [], length, ap, sym, subst, arith}
+-- A core as it makes a step without a turn, which is begun: the ground that it has after it, and its transfers by then.
+use Rattle.std.proofs.Common.{◌≡◌, ◌∙◌, ◌+◌, ◌<◌, ◌≤◌, ◌++◌, ℕ, List, [], length, refl, ap, sym, subst, arith}
 use Rattle.std.specs.List.{AllByRecursion as Each}
 use Rattle.core_laws.proofs.Given.{given_more}
 use Rattle.core_laws.proofs.Steps.{none_past, steps_local}
@@ -7,10 +7,10 @@ use Rattle.core_laws.specs.Running.{with_later, IsNoStop}
 use Rattle.core_laws.specs.StepsSoFar.{HasStepsSoFar}
 use Rattle.core_parts.specs.CoreValue.{CoreValue}
 use Rattle.core_parts.specs.Seat.{seat}
-use Rattle.core_parts.specs.declared.phase.Phase.TheVariants.{Between}
+use Rattle.core_parts.specs.declared.phase.Phase.TheVariants.{Begun}
 use Rattle.core_course.proofs.LaterSeat.{Reaches, reaches_later}
 use Rattle.core_course.proofs.Reaches.{so_far, read_so_far}
-use Rattle.core_course.proofs.Running.{ground_running, RunsOn, runs_on, unended_between}
+use Rattle.core_course.proofs.Running.{ground_running, RunsOn, runs_on, unended_begun}
 use Rattle.core_course.proofs.StepParts.{Parted, parted}
 use Rattle.core_parts.specs.Completes.{KeepsTurns}
 use Rattle.core_course.specs.CoreOk.{within_steps, past_its_steps, CoreOk}
@@ -32,10 +32,10 @@ place_of v ts = seat (ground_running v) ts v.steps
 abbrev pub ground_with : CoreValue → List Op → CoreEnd → ℕ → Ground
 ground_with v more end last = ground_of v.setup v.arch.core (with_later (given_by v.ops) (given_by more)) end last
 
-module _ (old new : CoreValue) (log : List Entry) (ts : List Transfer) (more : List Op) (h : CoreOk old log ts) (between : old.phase ≡ Between)
+module _ (old new : CoreValue) (log : List Entry) (ts : List Transfer) (more : List Op) (h : CoreOk old log ts) (begun : old.phase ≡ Begun)
     (left : old.steps < old.setup.config.steps) (keeps : KeepsTurns old new) (ops : new.ops ≡ old.ops ++ more) where
   pub now : RunsOn old log ts
-  now = runs_on old log ts (unended_between old.phase between) h
+  now = runs_on old log ts (unended_begun old.phase begun) h
 
   -- ---- the ground after the step
 
@@ -51,6 +51,9 @@ module _ (old new : CoreValue) (log : List Entry) (ts : List Transfer) (more : L
 
   pub running_new : ground_running new ≡ ground_with old more Limit old.setup.config.steps
   running_new = ap (λ (n : ℕ). ground_of new.setup new.arch.core (given_by new.ops) Limit n) limit_new ∙ ground_new Limit old.setup.config.steps
+
+  pub flips_new : (end : CoreEnd) (last : ℕ) → (ground_of new.setup new.arch.core (given_by new.ops) end last).flips ≡ (ground_running old).flips
+  flips_new end last = rw (keeps.parts.setup, keeps.parts.core) refl
 
   -- the core has come to its place by it
   pub reaches_then : (end : CoreEnd) (last : ℕ) → last ≤ old.setup.config.steps → Each (IsNoStop old.arch.core end) ts → old.steps < last

@@ -4,7 +4,7 @@ use Rattle.std.proofs.lemmas.List.{append-nil}
 use Rattle.core_parts.specs.CoreValue.{CoreValue}
 use Rattle.core_parts.specs.Moves.{tried_at, Retires}
 use Rattle.core_parts.specs.Seat.{IsSeat, errors_by}
-use Rattle.core_parts.specs.declared.phase.Phase.TheVariants.{Between, Ended}
+use Rattle.core_parts.specs.declared.phase.Phase.TheVariants.{Between, Begun, Ended}
 use Rattle.lf_model.specs.Course.Core.{Ground}
 use Rattle.lf_model.specs.Course.LocalStep.{local_step, is_last_stop, way_hit}
 use Rattle.lf_model.specs.Course.Outcome.Need.{NoTurn}
@@ -15,7 +15,7 @@ use Rattle.lf_model.specs.declared.trace.CoreEnd.TheVariants.{Halt}
 module _ (g : Ground) (k : Progress) (old new : CoreValue) where
   -- the step needs no turn, and is not the last of a core that a register cell stops
   pub record NeedsNone : Type 0 where
-    pub between : old.phase ≡ Between
+    pub begun : old.phase ≡ Begun
     pub none : next_needs g k (tried_at g k).outcome ≡ NoTurn
     pub goes_on : is_last_stop g k.steps ≡ false
 
@@ -30,10 +30,10 @@ module _ (g : Ground) (k : Progress) (old new : CoreValue) where
     seen = s.seen ∙ sym r.seen;
     unseen = s.unseen;
     completions = rw x.goes_on (ap (λ before. before ++ completed k.steps (way_hit (tried_at g k).arrays.data_cache (tried_at g k).outcome) k.seen (next_effect g k).access) s.completions ∙ sym r.completions);
-    errors = rw phase (rw x.none (append-nil k.errors ∙ (s.errors ∙ ap (errors_by old.steps k.turns) x.between)));
+    errors = rw phase (rw x.none (append-nil k.errors ∙ (s.errors ∙ ap (errors_by old.steps k.turns) x.begun)));
     owed = rw x.none (rw s.owed refl);
     stored = rw x.goes_on (rw s.stored (sym r.stored));
-    waits = rw phase (rw x.goes_on (omega (arith, r.waits, rw x.between at s.waits)));
+    waits = rw phase (rw x.goes_on (omega (arith, r.waits, rw x.begun at s.waits)));
   }
 
   -- it enters error mode
@@ -48,8 +48,8 @@ module _ (g : Ground) (k : Progress) (old new : CoreValue) where
     seen = s.seen ∙ sym r.seen;
     unseen = s.unseen;
     completions = rw x.goes_on (ap (λ before. before ++ completed k.steps (way_hit (tried_at g k).arrays.data_cache (tried_at g k).outcome) k.seen (next_effect g k).access) s.completions ∙ sym r.completions);
-    errors = rw phase (rw x.none (append-nil k.errors ∙ (s.errors ∙ ap (errors_by old.steps k.turns) x.between)));
+    errors = rw phase (rw x.none (append-nil k.errors ∙ (s.errors ∙ ap (errors_by old.steps k.turns) x.begun)));
     owed = rw x.none (rw s.owed refl);
     stored = rw x.goes_on (rw s.stored (sym r.stored));
-    waits = rw phase (λ _. rw x.goes_on (omega (arith, r.waits, rw x.between at s.waits)));
+    waits = rw phase (λ _. rw x.goes_on (omega (arith, r.waits, rw x.begun at s.waits)));
   }

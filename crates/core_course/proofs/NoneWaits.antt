@@ -1,7 +1,6 @@
 -- No store waits as a step without a turn ends a core: stores drain before it enters error mode, and before a register cell stops it.
 use Rattle.std.proofs.Common.{◌<◌, ◌-◌, ◌≡◌, ◌+◌, ℕ, Bool, true, false, nat_le, Option, Some, None, refl, arith, inl, inr}
 use Rattle.std.proofs.lemmas.Bool.{cases_Bool, ltb-false, leb-false}
-use Rattle.core_course.specs.Calls.{halts_with}
 use Rattle.lf_model.specs.Caches.Look.{LookUp, look}
 use Rattle.lf_model.specs.Caches.Look.LookUp.{Hit, Miss}
 use Rattle.lf_model.specs.Course.Arrays.{Arrays, CellsRead, cells_of, read_cells}
@@ -85,20 +84,6 @@ trapped image s e a tt_ is = elim (cases_Bool (is_text_word image.text s.ctl.pc)
   | inr no_text ↦ rw no_text tt
 ]
 
--- a trap where traps are disabled
-pub record EntersError (s : State) (trap : Option ℕ) : Type 0 where
-  pub number : ℕ
-  pub is : trap ≡ Some number
-  pub disabled : s.ctl.et ≡ false
-
-error_by : (s : State) (trap : Option ℕ) (et : Bool) (tt_ : ℕ) → s.ctl.et ≡ et → halts_with s trap ≡ Some tt_ → EntersError s trap
-error_by s None et tt_ is h = absurd (cc)
-error_by s (Some n) true tt_ is h = let none : None ≡ Some tt_ = rw is at h in absurd (cc)
-error_by s (Some n) false tt_ is h = record { number = n; is = refl; disabled = is }
-
-pub enters_error : (s : State) (trap : Option ℕ) (tt_ : ℕ) → halts_with s trap ≡ Some tt_ → EntersError s trap
-enters_error s trap tt_ h = error_by s trap s.ctl.et tt_ refl h
-
 -- ---- the core
 
 module _ (g : Ground) (k : Progress) (waiting : ℕ) (waits : k.drained + waiting ≡ k.stored) where
@@ -109,21 +94,7 @@ module _ (g : Ground) (k : Progress) (waiting : ℕ) (waits : k.drained + waitin
   pub none_at_stop : (outcome : Outcome) (cell : ℕ) → next_needs g k outcome ≡ RegisterStop cell → waiting ≡ 0
   none_at_stop outcome cell h = none_by (store_waits k) refl (λ some. stop_by (nat_le g.setup.config.window k.quiet) k.run.state.ctl.et (buffer_full g k) outcome cell (rw some at h))
 
-  pub none_at_halt : (e : Effect) (a : Arrays) (tt_ : ℕ) → next_needs g k (attempt g.setup.image k.run.state e a).outcome ≡ NoTurn → halts_with k.run.state e.trap ≡ Some tt_ → waiting ≡ 0
-  none_at_halt e a tt_ h halts =
-      let error = enters_error k.run.state e.trap tt_ halts in
+  pub none_at_halt : (e : Effect) (a : Arrays) (tt_ : ℕ) → next_needs g k (attempt g.setup.image k.run.state e a).outcome ≡ NoTurn → e.trap ≡ Some tt_ → k.run.state.ctl.et ≡ false → waiting ≡ 0
+  none_at_halt e a tt_ h is disabled =
       none_by (store_waits k) refl (λ some. trap_disabled (nat_le g.setup.config.window k.quiet) k.run.state.ctl.et (store_waits k) (buffer_full g k)
-      (attempt g.setup.image k.run.state e a).outcome error.disabled some (trapped g.setup.image k.run.state e a error.number error.is) h)
-
--- ---- a store that retires finds room
-
-room_by : (over et waits full : Bool) → step_needs over et waits full Store ≡ NoTurn → full ≡ false
-room_by true et true full h = absurd (cc)
-room_by true et false full h = absurd (cc)
-room_by false et waits true h = absurd (cc)
-room_by false et waits false h = refl
-
-pub room_for_store : (g : Ground) (k : Progress) (waiting : ℕ) → k.drained + waiting ≡ k.stored → next_needs g k Store ≡ NoTurn → waiting < g.setup.config.buffer
-room_for_store g k waiting waits h =
-    let free : nat_le g.setup.config.buffer (k.stored - k.drained) ≡ false = room_by (nat_le g.setup.config.window k.quiet) k.run.state.ctl.et (store_waits k) (buffer_full g k) h in
-    omega (arith, waits, leb-false g.setup.config.buffer (k.stored - k.drained) free)
+      (attempt g.setup.image k.run.state e a).outcome disabled some (trapped g.setup.image k.run.state e a tt_ is) h)

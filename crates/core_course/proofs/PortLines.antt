@@ -1,14 +1,15 @@
 -- What each touch leaves of the lines of a core's caches: only an own store and fills put bytes into them.
 use Rattle.std.proofs.Common.{◌≡◌, ◌<◌, ◌++◌, ◌^◌, ℕ, false, List, [], ◌∷◌, fold, refl, ap, sym, subst}
 use Rattle.std.specs.List.{AllByRecursion as Each}
-use Rattle.core_parts.specs.PortState.{PortState, arrays_in, lines_after, touch}
+use Rattle.core_parts.proofs.FormsKept.{PutsNone, PutNone, data_is}
+use Rattle.core_parts.specs.PortState.{PortState, arrays_in, touch}
 use Rattle.core_course.specs.Lines.{PortLines}
 use Rattle.lf_model.specs.Course.Touches.{touched}
 use Rattle.lf_model.specs.Value.{stored}
 use Rattle.lf_model.specs.declared.bus.Entry.{Entry}
 use Rattle.lf_model.specs.declared.flip.Flip.{Flip}
 use Rattle.lf_model.specs.declared.touch.Touch.{Touch}
-use Rattle.lf_model.specs.declared.touch.Touch.TheVariants.{StartStep, LookFetch, ReadCell, WriteCell, LookData, StoreData, FlushCaches, SnoopData, FillFetch, FillData}
+use Rattle.lf_model.specs.declared.touch.Touch.TheVariants.{StoreData}
 use Rattle.parity_cache.proofs.Bytes.{puts_data, puts_fetch, less_data, less_fetch, holds_own_store}
 use Rattle.parity_cache.proofs.LessResident.{formed_less, holds_less}
 use Rattle.parity_cache.proofs.OwnStore.{formed_stored}
@@ -16,26 +17,7 @@ use Rattle.parity_cache.specs.CacheState.{with_cache}
 use Rattle.parity_cache.specs.Resident.{Holds, IsWellFormed}
 use Rattle.parity_slots.specs.SlotState.{IsAccess}
 
--- a touch that puts no byte into a cache
-abbrev pub PutsNone : Touch → Type 0
-PutsNone t = (puts_data t ≡ false) × (puts_fetch t ≡ false)
-
-same_lines : (s : PortState) (t : Touch) → puts_data t ≡ false → lines_after s t ≡ s.data_cache.lines
-same_lines s (StoreData addr len value) e = absurd (cc)
-same_lines s (StartStep step) e = refl
-same_lines s (LookFetch addr) e = refl
-same_lines s (ReadCell cell) e = refl
-same_lines s (WriteCell cell) e = refl
-same_lines s (LookData addr len) e = refl
-same_lines s FlushCaches e = refl
-same_lines s (SnoopData addr) e = refl
-same_lines s (FillFetch addr valid) e = refl
-same_lines s (FillData addr valid) e = refl
-
 module _ (initial : ℕ → ℕ) (entries : List Entry) (flips : List (ℕ × Flip)) where
-  data_is : (s : PortState) (t : Touch) → puts_data t ≡ false → with_cache (touched flips (arrays_in s) t).data_cache s.data_cache ≡ (touch flips s t).data_cache
-  data_is s t e = ap (λ ls. record s.data_cache { cache = (touched flips (arrays_in s) t).data_cache; lines = ls }) (sym (same_lines s t e))
-
   -- it leaves what they hold
   pub keeps_lines : (s : PortState) (t : Touch) → PutsNone t → PortLines initial entries s → PortLines initial entries (touch flips s t)
   keeps_lines s t none h =
@@ -44,14 +26,14 @@ module _ (initial : ℕ → ℕ) (entries : List Entry) (flips : List (ℕ × Fl
       let less = less_data flips (arrays_in s) t none.0 in
       let less_f = less_fetch flips (arrays_in s) t none.1 in
       record {
-        data_formed = subst IsWellFormed (data_is s t none.0) (formed_less s.data_cache load less h.data_formed);
+        data_formed = subst IsWellFormed (data_is initial flips s t none.0) (formed_less s.data_cache load less h.data_formed);
         fetch_formed = formed_less s.fetch_cache fetch less_f h.fetch_formed;
-        data_lines = subst (Holds (λ a. stored a entries (initial a))) (data_is s t none.0)
+        data_lines = subst (Holds (λ a. stored a entries (initial a))) (data_is initial flips s t none.0)
             (holds_less s.data_cache load less (λ a. stored a entries (initial a)) (λ a. stored a entries (initial a)) h.data_lines (λ slot a lt is. refl));
         fetch_lines = holds_less s.fetch_cache fetch less_f initial initial h.fetch_lines (λ slot a lt is. refl);
       }
 
-  pub keeps_all : (ts : List Touch) (s : PortState) → Each PutsNone ts → PortLines initial entries s → PortLines initial entries (fold (touch flips) s ts)
+  pub keeps_all : (ts : List Touch) (s : PortState) → PutNone ts → PortLines initial entries s → PortLines initial entries (fold (touch flips) s ts)
   keeps_all [] s none h = h
   keeps_all (t ∷ ts) s none h = keeps_all ts (touch flips s t) none.1 (keeps_lines s t none.0 h)
 

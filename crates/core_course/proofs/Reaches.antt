@@ -4,7 +4,7 @@ use Rattle.core_laws.proofs.ListLemmas.{count_append}
 use Rattle.core_laws.proofs.Runs.{run_local_step}
 use Rattle.core_parts.specs.CoreValue.{CoreValue}
 use Rattle.core_parts.specs.Seat.{seat, IsSeat}
-use Rattle.core_parts.specs.declared.phase.Phase.TheVariants.{Between}
+use Rattle.core_parts.specs.declared.phase.Phase.TheVariants.{Begun}
 use Rattle.core_course.proofs.LaterSeat.{Reaches, seat_next}
 use Rattle.core_course.proofs.Running.{ground_running, RunsOn}
 use Rattle.lf_model.proofs.CourseLemmas.{local_step_counts}
@@ -52,18 +52,18 @@ module _ (v : CoreValue) (log : List Entry) (ts : List Transfer) (h : RunsOn v l
   pub read_so_far : reads_of (seat (ground_running v) ts v.steps).run.ops ≤ length (answers_of v.ops)
   read_so_far = omega (arith, ap (λ (r : Run). reads_of r.ops) h.is_seat.run, all_read v.ops)
 
-  pub going : v.phase ≡ Between → (seat (ground_running v) ts v.steps).run.state.halt ≡ None
-  going between = ap (λ (r : Run). r.state.halt) h.is_seat.run ∙ rw between refl
+  pub going : v.phase ≡ Begun → (seat (ground_running v) ts v.steps).run.state.halt ≡ None
+  going begun = ap (λ (r : Run). r.state.halt) h.is_seat.run ∙ rw begun refl
 
--- ---- the seat of a core between steps is its seat by any ground
+-- ---- the seat of a core whose step is begun is its seat by any ground with the same flips
 
-pub seat_between : (v : CoreValue) (g g' : Ground) (k : Progress) → v.phase ≡ Between → IsSeat v g k → IsSeat v g' k
-seat_between v g g' k between s = record {
+pub seat_begun : (v : CoreValue) (g g' : Ground) (k : Progress) → v.phase ≡ Begun → g'.flips ≡ g.flips → IsSeat v g k → IsSeat v g' k
+seat_begun v g g' k begun same s = record {
   steps = s.steps;
   quiet = s.quiet;
   retired = s.retired;
   run = s.run;
-  arrays = rw between (rw between at s.arrays);
+  arrays = rw begun (rw same (rw begun at s.arrays));
   seen = s.seen;
   unseen = s.unseen;
   completions = s.completions;

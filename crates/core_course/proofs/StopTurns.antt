@@ -98,7 +98,6 @@ module _ (old new : CoreValue) (seen more : List Entry) (ts us : List Transfer) 
     pub bad : bad_wanted place.run.state.ctl.pc (next_effect (ground_running old) place) t ≡ Some j
     pub turn_is : t.turn ≡ length (ts ++ us)
     pub earlier : Each (λ (u : Transfer). u.turn < t.turn) ts
-    pub made : new.steps ≡ (if nat_le old.setup.config.steps old.steps then old.steps else old.steps + 1)
     pub stops : StopsAtTurn ground place t j (turn_trap t.kind) syn old new
     pub phase : new.phase ≡ Ended end
     pub log_length : length log ≡ new.log_seen
@@ -135,10 +134,10 @@ module _ (old new : CoreValue) (seen more : List Entry) (ts us : List Transfer) 
     between false is made = (omega (arith, made), omega (arith, made, leb-false limit old.steps is))
 
     bounds : (old.steps ≤ new.steps) × (new.steps ≤ limit)
-    bounds = between (nat_le limit old.steps) refl s.made
+    bounds = between (nat_le limit old.steps) refl s.stops.steps
 
     past : nat_le new.steps place.steps ≡ nat_le limit place.steps
-    past = rw here.is_seat.steps (same_past (given_by old.ops).answers end new.steps limit old.steps bounds.1 (omega (arith, s.made)))
+    past = rw here.is_seat.steps (same_past (given_by old.ops).answers end new.steps limit old.steps bounds.1 (omega (arith, s.stops.steps)))
 
     -- ---- its place
 
@@ -159,6 +158,7 @@ module _ (old new : CoreValue) (seen more : List Entry) (ts us : List Transfer) 
     meets : MeetsBad ground old new (place_of old ts) (flat_map stored_at us) t j (turn_trap t.kind)
     meets = record {
       none_met = here.is_seat.errors ∙ none_met old.steps (place_of old ts).turns old.phase x.unended;
+      past = past ∙ ap (nat_le limit) here.is_seat.steps;
       waits = some_wait (length old.ports.waiting) (place_of old ts) old.phase x.unended here.is_seat.waits;
       bad = bad;
       no_register = no_cell_trap t.kind;
@@ -197,7 +197,7 @@ module _ (old new : CoreValue) (seen more : List Entry) (ts us : List Transfer) 
         ap (λ vs. (within ++ t ∷ []) ++ vs) none ∙ (append-nil (within ++ t ∷ []) ∙ (ap (λ vs. vs ++ t ∷ []) (sym (append-nil within)) ∙ ap (λ vs. (within ++ vs) ++ t ∷ []) (sym none))) in
         subst (HasSteps old.setup (result_of new end)) same
         (ends_at_turn old.setup (result_of new end) old.steps old.arch.n (length old.ports.waiting) within past_them here.goes_on.has_steps left
-        (s.made ∙ next_step _ old.steps (lt-leb limit old.steps left)) t x.step is_stop no_stop_within s.stops.counted)
+        (s.stops.steps ∙ next_step _ old.steps (lt-leb limit old.steps left)) t x.step is_stop no_stop_within s.stops.counted)
       where
         next_step : (past : Bool) (n : ℕ) → past ≡ false → (if past then n else n + 1) ≡ n + 1
         next_step past n e = rw e refl
@@ -209,7 +209,7 @@ module _ (old new : CoreValue) (seen more : List Entry) (ts us : List Transfer) 
         let one : length old.ports.waiting ≡ length old.ports.waiting - 1 + 1 = omega (arith, drains.1.some) in
         let drain : is_last_drain limit t ≡ true = drain_last old turn t drains.0 x.makes.kind x.makes.why (x.step ∙ last) in
         let more_steps = steps_drain limit old.steps old.arch.n (length old.ports.waiting) within past_them here.goes_on.has_steps t (length old.ports.waiting - 1) last drain one in
-        let made : new.steps ≡ old.steps = s.made ∙ same_step _ old.steps (le-leb limit old.steps over) in
+        let made : new.steps ≡ old.steps = s.stops.steps ∙ same_step _ old.steps (le-leb limit old.steps over) in
         subst (HasSteps old.setup (result_of new end)) (sym (append_assoc within past_them (t ∷ [])))
         (ends_past_steps old.setup (result_of new end) (length old.ports.waiting - 1) within (past_them ++ t ∷ [])
         (steps_as limit limit old.steps new.steps old.arch.n new.arch.n _ (length old.ports.waiting - 1) _ within _ (past_them ++ t ∷ []) more_steps refl made s.stops.counted refl refl refl)

@@ -116,6 +116,7 @@ module _ (old new : CoreValue) (seen : List Entry) (ts us : List Transfer) (t : 
       well = record {
         none_met = h.is_seat.errors ∙ none_met old.steps (place_of old ts).turns old.phase x.unended;
         waits = some_wait (length old.ports.waiting) (place_of old ts) old.phase x.unended h.is_seat.waits;
+        past = rw (limit_new old new seen ts us t later h x keeps given, h.is_seat.steps) refl;
         none_bad = good;
       }
 
@@ -131,19 +132,19 @@ module _ (old new : CoreValue) (seen : List Entry) (ts us : List Transfer) (t : 
       same_step : (past : Bool) (n : ℕ) → past ≡ true → (if past then n else n + 1) ≡ n
       same_step past n e = rw e refl
 
-      not_past : old.steps < old.setup.config.steps → nat_le new.setup.config.steps place.steps ≡ false
-      not_past left = lt-leb new.setup.config.steps place.steps (omega (arith, left, limit_new old new seen ts us t later h x keeps given, h.is_seat.steps))
+      not_past : old.steps < old.setup.config.steps → nat_le old.setup.config.steps old.steps ≡ false
+      not_past left = lt-leb old.setup.config.steps old.steps left
 
       -- a fill, a drain or a snoop
       pub turn_on : Turns ground place t old new → same_kind t.kind Atomic ≡ false → old.steps < old.setup.config.steps → CoreOk new log after
       turn_on r plain left = in_step (turned ground (place_of old ts) (flat_map stored_at us) t old new (ground_running old) h.is_seat well (retires_none plain) r s.phase)
-          left (r.steps ∙ (next_step _ place.steps (not_past left) ∙ ap (λ n. n + 1) h.is_seat.steps))
+          left (r.steps ∙ next_step _ old.steps (not_past left))
           (rw plain (omega (arith, r.counted)))
 
       -- an atomic
       pub exchange_on : Exchanges ground place t old new → same_kind t.kind Atomic ≡ true → old.steps < old.setup.config.steps → CoreOk new log after
       exchange_on r atomic left = in_step (exchanged ground (place_of old ts) (flat_map stored_at us) t old new (ground_running old) h.is_seat well (retires_one atomic) r s.phase)
-          left (r.steps ∙ (next_step _ place.steps (not_past left) ∙ ap (λ n. n + 1) h.is_seat.steps))
+          left (r.steps ∙ next_step _ old.steps (not_past left))
           (rw atomic (omega (arith, r.counted)))
 
       -- a drain after the last step
@@ -151,5 +152,5 @@ module _ (old new : CoreValue) (seen : List Entry) (ts us : List Transfer) (t : 
           → old.steps ≡ old.setup.config.steps → CoreOk new log after
       drain_on r plain store drain last = after_steps (turned ground (place_of old ts) (flat_map stored_at us) t old new (ground_running old) h.is_seat well (retires_none plain) r s.phase)
           last
-          (r.steps ∙ (same_step _ place.steps (le-leb new.setup.config.steps place.steps (omega (arith, last, limit_new old new seen ts us t later h x keeps given, h.is_seat.steps))) ∙ h.is_seat.steps))
+          (r.steps ∙ same_step _ old.steps (le-leb old.setup.config.steps old.steps (omega (arith, last))))
           r.counted drain (omega (arith, r.waits, ap from_bool store))

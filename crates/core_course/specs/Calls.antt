@@ -1,34 +1,26 @@
 -- What the calls of a core ask and promise.
-use Rattle.std.specs.Prelude.{ℕ, ◌≡◌, ◌<◌, ◌==◌, true, false, List, length, take, drop, Option, Some, None, if◌then◌else◌}
+use Rattle.std.specs.Prelude.{◌≡◌, ◌<◌, ◌==◌, true, false, List, length, take, drop}
 use Rattle.std.specs.List.{AllByRecursion, list_all}
 use Rattle.core_course.specs.CoreOk.{CoreOk}
 use Rattle.core_parts.specs.CoreValue.{CoreValue}
 use Rattle.core_parts.specs.Moves.{tried_at}
-use Rattle.core_parts.specs.Needs.{IsAnswer}
 use Rattle.core_parts.specs.Phases.{ground_so_far, state_of_core}
 use Rattle.core_parts.specs.Seat.{seat}
 use Rattle.core_parts.specs.declared.phase.CoreState.TheVariants.{Draining}
 use Rattle.core_parts.specs.declared.phase.Phase.{Phase}
 use Rattle.core_parts.specs.declared.phase.Phase.TheVariants.{Between, Begun, Needs, Ended}
-use Rattle.lf_model.specs.Caches.Slot.{history_at}
-use Rattle.lf_model.specs.Course.Arrays.{Arrays}
-use Rattle.lf_model.specs.Course.Attempt.{Attempt}
 use Rattle.lf_model.specs.Course.Core.{Ground}
-use Rattle.lf_model.specs.Course.Outcome.{Need}
-use Rattle.lf_model.specs.Course.Outcome.Need.{NoTurn, RegisterStop}
-use Rattle.lf_model.specs.Course.Outcome.Need.{Turn as Asks}
 use Rattle.lf_model.specs.Course.Progress.{Progress, next_needs}
-use Rattle.lf_model.specs.Flips.{syndrome}
 use Rattle.lf_model.specs.Records.BusRecord.{is_in_memory}
 use Rattle.lf_model.specs.Records.OwnTurns.{next_effect}
 use Rattle.lf_model.specs.Records.SeenOrder.{is_entry_of}
-use Rattle.lf_model.specs.State.{State}
 use Rattle.lf_model.specs.declared.bus.Entry.{Entry}
 use Rattle.lf_model.specs.declared.bus.Transfer.{Transfer}
 use Rattle.lf_model.specs.declared.bus.Why.TheVariants.{End, Sched}
 use Rattle.lf_model.specs.declared.step.Did.{Did}
 use Rattle.lf_model.specs.declared.step.Turn.{Turn}
 use Rattle.lf_model.specs.declared.step.Turn.TheVariants.{Drain}
+use Rattle.v8_exec.specs.CourseParts.{did_by}
 
 -- ---- the bus that a core meets
 
@@ -56,21 +48,9 @@ MayTurn v turn = MayTurnBy v turn v.phase
 
 -- ---- the answer of local_step is the table's, at the seat that the core had
 
--- the syndrome that a stop by a register cell shows
-abbrev pub syndrome_shown : Need → Arrays → ℕ
-syndrome_shown (RegisterStop cell) a = syndrome (history_at cell a.cells)
-syndrome_shown NoTurn a = 0
-syndrome_shown (Asks kind why) a = 0
-
--- a trap enters error mode where traps are disabled (SPARC V8, chapter 7, traps)
-abbrev pub halts_with : State → Option ℕ → Option ℕ
-halts_with s None = None
-halts_with s (Some tt_) = if s.ctl.et then None else Some tt_
-
--- by what the instruction came to
-abbrev pub AnswersBy : Ground → Progress → Attempt → Did → Type 0
-AnswersBy g k x answer = let need = next_needs g k x.outcome in
-    IsAnswer need (halts_with k.run.state (next_effect g k).trap) (syndrome_shown need x.arrays) answer
+-- of the step after this place of the course, by what its instruction comes to and what the step needs
+abbrev pub answer_at : Ground → Progress → Did
+answer_at g k = let x = tried_at g k in did_by k.run.state (next_effect g k) x.arrays.cells (next_needs g k x.outcome)
 
 abbrev pub Answers : CoreValue → List Transfer → Did → Type 0
-Answers v transfers answer = let g = ground_so_far v in let k = seat g transfers v.steps in AnswersBy g k (tried_at g k) answer
+Answers v transfers answer = let g = ground_so_far v in answer ≡ answer_at g (seat g transfers v.steps)
