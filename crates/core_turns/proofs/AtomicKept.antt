@@ -1,5 +1,5 @@
 -- What holds of a core and its parts stays as an atomic retires, and the core can run on.
-use Rattle.std.proofs.Common.{◌≡◌, ◌∙◌, ◌+◌, ◌-◌, ◌*◌, ◌/◌, ◌%◌, ◌^◌, ◌<◌, ◌≤◌, ◌++◌, ◌==◌, ◌||◌, ℕ, Bool, true, false, IsTrue, List, [], ◌∷◌, length, map, fold, refl, ap, sym, subst, arith, inl, inr}
+use Rattle.std.proofs.Common.{◌≡◌, ◌∙◌, ◌+◌, ◌-◌, ◌*◌, ◌/◌, ◌%◌, ◌^◌, ◌<◌, ◌≤◌, ◌==◌, ◌||◌, ℕ, Bool, true, false, IsTrue, List, [], ◌∷◌, length, fold, refl, ap, sym, subst, arith, inl, inr}
 use Rattle.std.proofs.lemmas.Bool.{and_from, lt-ltb, cases_eq}
 use Rattle.std.proofs.lemmas.Bool.Decides.{nat_tests}
 use Rattle.std.proofs.lemmas.List.{length-append}
@@ -29,12 +29,11 @@ use Rattle.lf_model.specs.declared.bus.Pending.{Pending}
 use Rattle.lf_model.specs.declared.control.Arch.{Arch}
 use Rattle.lf_model.specs.declared.control.Ctl.{Ctl}
 use Rattle.lf_model.specs.declared.setup.Setup.{Setup}
-use Rattle.lf_model.specs.declared.touch.Touch.{Touch}
 use Rattle.lf_model.specs.declared.touch.Touch.TheVariants.{SnoopData}
 use Rattle.parity_cache.proofs.LessResident.{formed_snooped}
 use Rattle.parity_cache.specs.CacheState.{CacheState, with_cache}
 use Rattle.parity_cache.specs.Resident.{Holds, IsWellFormed}
-use Rattle.core_turns.proofs.RetiredAtomic.{EndsAtomic, Retires, cells_written, record_kept, atomic_made}
+use Rattle.core_turns.proofs.RetiredAtomic.{Retires, cells_written, record_kept, atomic_made}
 use Rattle.core_turns.proofs.RunsOn.{Leaves}
 use Rattle.core_turns.specs.CanTurn.{CanRetire}
 use Rattle.core_turns.specs.Exchanging.{CanExchange, entry_seen}

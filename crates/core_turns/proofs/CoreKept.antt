@@ -1,5 +1,5 @@
 -- What holds of a core and its parts stays through a turn that retires no instruction: it catches up, fills a line, or drains a store.
-use Rattle.std.proofs.Common.{◌≡◌, ◌∙◌, ◌+◌, ◌*◌, ◌/◌, ◌%◌, ◌^◌, ◌<◌, ◌++◌, ◌&&◌, ◌==◌, ℕ, Bool, true, false, nat_le, List, [], ◌∷◌, length, map, take, drop, filter, refl, ap, sym, subst}
+use Rattle.std.proofs.Common.{◌∙◌, ◌^◌, ◌<◌, ℕ, Bool, true, false, List, drop, sym}
 use Rattle.std.proofs.lemmas.List.{length-map}
 use Rattle.core_laws.specs.SeenSoFar.{lost_from, losing}
 use Rattle.core_parts.proofs.RegularMade.{regular_losing}

@@ -1,5 +1,5 @@
 -- An atomic on the bus: whether its entry is in the log, what it answers, and the number that it read.
-use Rattle.std.proofs.Common.{◌≡◌, ◌∙◌, ◌+◌, ◌++◌, ◌≤◌, ◌==◌, ◌||◌, ℕ, Bool, true, false, IsTrue, Result, Ok, Err, List, [], ◌∷◌, length, cond, refl, ap, sym, arith, if◌then◌else◌}
+use Rattle.std.proofs.Common.{◌≡◌, ◌∙◌, ◌+◌, ◌++◌, ◌≤◌, ◌==◌, ◌||◌, ℕ, Bool, true, false, IsTrue, Result, Ok, Err, [], ◌∷◌, length, cond, refl, ap, sym, arith, if◌then◌else◌}
 use Rattle.std.proofs.lemmas.Bool.Decides.{nat_tests}
 use Rattle.std.proofs.lemmas.List.{length-append}
 use Rattle.std.specs.Prelude.{is_ok}

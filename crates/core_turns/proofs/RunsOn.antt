@@ -1,5 +1,5 @@
 -- A core that could run before a turn can run on after it: no flip strikes in a turn, and it takes no more room than the step that it ends.
-use Rattle.std.proofs.Common.{◌≡◌, ◌∙◌, ◌+◌, ◌-◌, ◌≤◌, ℕ, true, false, Bool, nat_le, List, [], ◌∷◌, length, map, drop, fold, refl, sym, ap, arith, if◌then◌else◌}
+use Rattle.std.proofs.Common.{◌≡◌, ◌+◌, ◌≤◌, ℕ, true, false, Bool, nat_le, List, [], ◌∷◌, map, drop, fold, refl, ap, arith, if◌then◌else◌}
 use Rattle.std.proofs.lemmas.Bool.{leb-true}
 use Rattle.std.proofs.lemmas.List.{length-map}
 use Rattle.core_laws.specs.SeenSoFar.{lost_from}

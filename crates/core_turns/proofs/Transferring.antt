@@ -1,5 +1,5 @@
 -- The transfer of a turn, by its kind: what the call for it promises is what the definitions make of the core and of the bus.
-use Rattle.std.proofs.Common.{◌≡◌, ◌∙◌, ◌+◌, ◌-◌, ◌%◌, ◌^◌, ◌<◌, ◌≤◌, ℕ, Bool, true, false, nat_le, IsTrue, Result, Ok, List, [], ◌∷◌, length, map, drop, refl, ap, sym, subst, arith, if◌then◌else◌}
+use Rattle.std.proofs.Common.{◌≡◌, ◌∙◌, ◌+◌, ◌%◌, ◌^◌, ◌<◌, ◌≤◌, ℕ, Bool, true, false, Result, Ok, List, [], ◌∷◌, length, map, drop, refl, ap, sym, subst, arith, if◌then◌else◌}
 use Rattle.std.specs.List.{AllByRecursion}
 use Rattle.ahb_bus.specs.BusOk.{BusOk}
 use Rattle.ahb_bus.specs.BusState.{BusState, memory_of, part_of, asked_by, answered, after_turn, exchanged_by}
@@ -17,7 +17,7 @@ use Rattle.core_parts.specs.declared.phase.Phase.{Phase}
 use Rattle.lf_model.specs.Bus.Words.{word_of}
 use Rattle.lf_model.specs.Caches.Slot.{line_of}
 use Rattle.lf_model.specs.Course.Syndromes.{enters_log}
-use Rattle.lf_model.specs.Start.{initial_byte, is_in_ram}
+use Rattle.lf_model.specs.Start.{initial_byte}
 use Rattle.lf_model.specs.declared.bus.Bad.{Bad}
 use Rattle.lf_model.specs.declared.bus.Pending.{Pending}
 use Rattle.lf_model.specs.declared.bus.Transfer.{Transfer}
@@ -29,7 +29,6 @@ use Rattle.lf_model.specs.declared.control.Arch.{Arch}
 use Rattle.lf_model.specs.declared.setup.Setup.{Setup}
 use Rattle.lf_model.specs.declared.step.Did.{Did}
 use Rattle.lf_model.specs.declared.step.Did.TheVariants.{Turned}
-use Rattle.lf_model.specs.declared.step.Turn.{Turn}
 use Rattle.lf_model.specs.declared.step.Turn.TheVariants.{Fetch, Load, Atomic, Drain, Snoop}
 use Rattle.lf_model.specs.declared.trace.Word2.{Word2}
 use Rattle.parity_cache.specs.CacheState.{CacheState}

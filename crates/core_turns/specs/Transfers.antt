@@ -3,7 +3,6 @@ use Rattle.std.specs.Prelude.{ℕ, ◌≡◌, List, Result}
 use Rattle.ahb_bus.specs.BusOk.{BusOk}
 use Rattle.ahb_bus.specs.BusState.{BusState}
 use Rattle.core_parts.specs.CanRun.{CanRun}
-use Rattle.core_parts.specs.CoreValue.{CoreValue}
 use Rattle.core_parts.specs.Inside.{value_of}
 use Rattle.core_parts.specs.IsCore.{IsCore}
 use Rattle.core_parts.specs.declared.parts.Parts.{Parts}

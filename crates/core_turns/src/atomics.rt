@@ -47,14 +47,7 @@ fn see_entry(parts: &mut Parts, addr: u32, seen: u32)
 }
 
 /// An atomic that read this number retires its instruction, and its entry is seen.
-fn retire_atomic(
-    arch: &mut Arch,
-    parts: &mut Parts,
-    asked: &Pending,
-    rd: u8,
-    got: u32,
-    seen: u32,
-)
+fn retire_atomic(arch: &mut Arch, parts: &mut Parts, asked: &Pending, rd: u8, got: u32, seen: u32)
     requires core { IsCore arch.old parts.old }
     requires can { CanRetire asked.now rd arch.old parts.old }
     requires runs { CanRun (steps_ended parts.old) 1 parts.old }

@@ -1,6 +1,6 @@
 use Rattle.std.proofs.Common.{Ok, Err, ◌∙◌, ◌+◌, ◌*◌, ◌^◌, ◌<◌, length, ap, sym, subst}
 use Rattle.std.proofs.lemmas.Result.{err_from_is_err_and}
-use Rattle.ahb_bus.specs.BusState.{BusState, part_of}
+use Rattle.ahb_bus.specs.BusState.{BusState}
 use Rattle.core_parts.specs.Inside.{value_of}
 use Rattle.core_turns.proofs.AtomicKept.{part_small}
 use Rattle.core_turns.proofs.ExchangeAnswers.{answers, core_exchanged, core_same, log_longer}
@@ -51,7 +51,7 @@ pub retire_atomic-requires-clause-number : goal.retire_atomic-requires-clause-nu
 retire_atomic-requires-clause-number c = subst (λ n. n < 2 ^ (8 * c.args.asked.now.len)) (sym c.number_read-number.ensures) (part_small c.in_ok-got.got.value c.args.asked.now.addr c.args.asked.now.len c.requires.can.exchange.size)
 
 pub retire_atomic-requires-clause-seen : goal.retire_atomic-requires-clause-seen
-retire_atomic-requires-clause-seen c = 
+retire_atomic-requires-clause-seen c =
     c.len.ensures.length ∙ (ap length c.log.ensures.entries ∙ (ap (λ (b : BusState). length b.log) c.atomic.ensures.made
     ∙ (log_longer c.args.bus.now c.args.who c.args.asked.now c.args.rd c.requires.ok (exchange_here c.args.arch.now c.args.parts.now c.args.bus.now c.requires.setup c.requires.ok c.requires.core c.args.asked.now c.args.rd c.requires.can) c.in_ok-got.got c.in_ok-got.ensures.answer ∙ ap (λ n. n + 1) (sym c.requires.seen))))
 

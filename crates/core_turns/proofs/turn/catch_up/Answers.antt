@@ -1,4 +1,4 @@
-use Rattle.std.proofs.Common.{◌≡◌, ◌≤◌, ℕ, ap, sym, subst}
+use Rattle.std.proofs.Common.{ap, sym, subst}
 use Rattle.core_parts.specs.CanRun.{CanRun}
 use Rattle.core_parts.specs.IsCore.{IsCore}
 use Rattle.core_parts.specs.declared.parts.Parts.{Parts}

@@ -16,22 +16,22 @@ pub catch_up-requires : goal.catch_up-requires
 catch_up-requires c = subst (λ (es : List Entry). c.args.parts.now.«record».seen ≤ length es) (sym c.log.ensures.entries) c.requires.seen
 
 pub transfer-requires-clause-turn : goal.transfer-requires-clause-turn
-transfer-requires-clause-turn c = 
+transfer-requires-clause-turn c =
     let e : c.catch_up.new.parts ≡ caught_up_parts c.args.bus.now.log c.args.parts.now = c.catch_up.ensures.parts ∙ ap (λ (es : List Entry). caught_up_parts es c.args.parts.now) c.log.ensures.entries in
     subst (λ (q : Parts). IsCoreTurn (who_in c.args.arch.now q) c.args.bus.now) (sym e) c.requires.turn
 
 pub transfer-requires-clause-entry : goal.transfer-requires-clause-entry
-transfer-requires-clause-entry c = 
+transfer-requires-clause-entry c =
     let e : c.catch_up.new.parts ≡ caught_up_parts c.args.bus.now.log c.args.parts.now = c.catch_up.ensures.parts ∙ ap (λ (es : List Entry). caught_up_parts es c.args.parts.now) c.log.ensures.entries in
     subst (λ (q : Parts). HasEntryFor c.args.turn (who_in c.args.arch.now q) c.args.bus.now) (sym e) c.requires.entry
 
 pub transfer-requires-clause-setup : goal.transfer-requires-clause-setup
-transfer-requires-clause-setup c = 
+transfer-requires-clause-setup c =
     let e : c.catch_up.new.parts ≡ caught_up_parts c.args.bus.now.log c.args.parts.now = c.catch_up.ensures.parts ∙ ap (λ (es : List Entry). caught_up_parts es c.args.parts.now) c.log.ensures.entries in
     c.requires.setup ∙ sym (ap (λ (q : Parts). q.site) e)
 
 pub transfer-requires-clause-seen : goal.transfer-requires-clause-seen
-transfer-requires-clause-seen c = 
+transfer-requires-clause-seen c =
     let e : c.catch_up.new.parts ≡ caught_up_parts c.args.bus.now.log c.args.parts.now = c.catch_up.ensures.parts ∙ ap (λ (es : List Entry). caught_up_parts es c.args.parts.now) c.log.ensures.entries in
     ap (λ (q : Parts). q.«record».seen) e
 
@@ -42,7 +42,7 @@ pub transfer-requires-clause-can : goal.transfer-requires-clause-can
 transfer-requires-clause-can c = c.catch_up.ensures.can c.args.turn c.args.arch.now c.requires.can
 
 pub transfer-requires-clause-runs : goal.transfer-requires-clause-runs
-transfer-requires-clause-runs c = 
+transfer-requires-clause-runs c =
     let e : c.catch_up.new.parts ≡ caught_up_parts c.args.bus.now.log c.args.parts.now = c.catch_up.ensures.parts ∙ ap (λ (es : List Entry). caught_up_parts es c.args.parts.now) c.log.ensures.entries in
     subst (λ n. CanRun n (looked_before c.args.turn) c.catch_up.new.parts) (sym (ap steps_ended e)) (c.catch_up.ensures.runs (steps_ended c.args.parts.now) (looked_before c.args.turn) c.requires.runs)
 
@@ -71,6 +71,6 @@ pub returns-clause-keeps : goal.returns-clause-keeps
 returns-clause-keeps c = c.transfer.ensures.keeps
 
 pub returns-clause-runs : goal.returns-clause-runs
-returns-clause-runs c = 
+returns-clause-runs c =
     let e : c.catch_up.new.parts ≡ caught_up_parts c.args.bus.now.log c.args.parts.now = c.catch_up.ensures.parts ∙ ap (λ (es : List Entry). caught_up_parts es c.args.parts.now) c.log.ensures.entries in
     subst (λ n. CanRun n 0 (turn_over c.transfer.new.parts)) (ap steps_ended e) c.transfer.ensures.runs
