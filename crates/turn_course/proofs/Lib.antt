@@ -4,3 +4,6 @@ pub mod TurnStops
 pub mod TurnLines
 pub mod FillBytes
 pub mod FilledLine
+pub mod Fetches
+pub mod Loads
+pub mod Snoops
