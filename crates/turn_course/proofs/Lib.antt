@@ -7,3 +7,5 @@ pub mod FilledLine
 pub mod Fetches
 pub mod Loads
 pub mod Snoops
+pub mod DrainedEntry
+pub mod Drains
