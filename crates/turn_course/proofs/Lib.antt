@@ -9,3 +9,6 @@ pub mod Loads
 pub mod Snoops
 pub mod DrainedEntry
 pub mod Drains
+pub mod AtomicEnds
+pub mod AtomicReads
+pub mod Atomics
