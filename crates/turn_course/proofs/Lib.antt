@@ -12,3 +12,6 @@ pub mod Drains
 pub mod AtomicEnds
 pub mod AtomicReads
 pub mod Atomics
+pub mod WholeTurn
+pub mod Shares
+pub mod TakenOfParts
