@@ -1,5 +1,5 @@
 -- The number that an atomic reads of its word is that of the bytes that the log left at its address.
-use Rattle.std.proofs.Common.{◌≡◌, ◌∙◌, ◌+◌, ◌-◌, ◌*◌, ◌/◌, ◌%◌, ◌^◌, ◌<◌, ◌≤◌, ◌==◌, ◌||◌, ℕ, zero, suc, true, nat_le, IsTrue, ◌⊎◌, inl, inr, refl, ap, sym, subst, arith}
+use Rattle.std.proofs.Common.{◌≡◌, ◌∙◌, ◌+◌, ◌-◌, ◌*◌, ◌/◌, ◌%◌, ◌^◌, ◌<◌, ◌≤◌, ◌==◌, ◌||◌, ℕ, zero, suc, true, nat_le, IsTrue, List, ◌⊎◌, inl, inr, refl, ap, sym, subst, arith}
 use Rattle.std.proofs.lemmas.Bool.{and_parts, and_from, cases_Bool, eqb-true, leb-true, le-leb}
 use Rattle.std.proofs.lemmas.Bool.Decides.{nat_tests}
 use Rattle.ahb_bus.proofs.NumberBytes.{byte_of_number, number_small}
@@ -7,11 +7,15 @@ use Rattle.ahb_bus.proofs.ShownLemmas.{value_left}
 use Rattle.ahb_bus.specs.BusOk.{BusOk}
 use Rattle.ahb_bus.specs.BusState.{BusState, memory_of, part_of}
 use Rattle.bus_memory.specs.MemoryState.{value_at}
+use Rattle.core_turns.proofs.TextLine.{stored_small}
 use Rattle.lf_model.specs.Bus.Words.{word_of}
 use Rattle.lf_model.specs.Operation.{byte_of}
 use Rattle.lf_model.specs.Promise.Regular.{is_length}
 use Rattle.lf_model.specs.Records.AllRecords.{number_left}
 use Rattle.lf_model.specs.Start.{ram_first, is_in_ram, number_at}
+use Rattle.lf_model.specs.Value.{Reads, stored}
+use Rattle.lf_model.specs.declared.bus.Entry.{Entry}
+use Rattle.parity_cache.proofs.Bytes.{touched_from}
 
 -- a byte, or a word
 pub byte_or_word : (len : ℕ) → IsTrue (len == 1 || len == 4) → (len ≡ 1) ⊎ (len ≡ 4)
@@ -75,3 +79,14 @@ module _ (bus : BusState) (ok : BusOk bus) (addr len : ℕ) (inside : IsTrue (is
   pub word_read : value_at (memory_of bus) (word_of addr) ≡ number_left bus.setup.image bus.log (word_of addr)
   word_read = value_left bus ok (word_of addr) (omega arith)
       (word_inside bus.setup.config.ram addr len (omega (arith, ok.size)) some inside)
+
+-- ---- its bytes
+
+-- an operation reads the number that these entries left at its address
+pub reads_number : (initial : ℕ → ℕ) → ((a : ℕ) → initial a < 256) → (entries : List Entry) (r : Entry) → r.got ≡ number_at (λ a. stored a entries (initial a)) r.addr r.len → Reads initial r entries
+reads_number initial small entries r got a touched_ =
+    let within = touched_from a r touched_ in
+    let at : r.addr + (a - r.addr) ≡ a = omega (arith, within.0) in
+    ap (λ n. byte_of n r.len (a - r.addr)) got
+    ∙ (byte_of_number (λ b. stored b entries (initial b)) r.addr r.len (λ j below. stored_small (r.addr + j) (initial (r.addr + j)) entries (small (r.addr + j))) (a - r.addr) (omega (arith, within.0, within.1))
+    ∙ ap (λ b. stored b entries (initial b)) at)

@@ -9,7 +9,6 @@ use Rattle.ahb_bus.specs.BusState.{BusState, memory_of, atomic_entry, exchanged_
 use Rattle.bus_memory.specs.MemoryState.{value_at, read_answer}
 use Rattle.core_course.proofs.BusSteps.{MakesTurn, GoesOnAfter, exchanges, joined}
 use Rattle.core_course.proofs.Ended.{ground_ended}
-use Rattle.core_course.proofs.HitNumber.{stored_small}
 use Rattle.core_course.proofs.LocalGround.{place_of}
 use Rattle.core_course.proofs.MayTurns.{in_a_step}
 use Rattle.core_course.proofs.Reaches.{all_read}
@@ -30,6 +29,7 @@ use Rattle.core_turns.proofs.Answers.{did_by, atomic_answer, good}
 use Rattle.core_turns.proofs.DrainLemmas.{in_ram_placed}
 use Rattle.core_turns.proofs.Exchange.{exchanges as exchange_made}
 use Rattle.core_turns.proofs.Leaves.{atomic_stops}
+use Rattle.core_turns.proofs.TextLine.{stored_small}
 use Rattle.core_turns.specs.AfterTurn.{snooping, exchanged, turn_ended}
 use Rattle.core_turns.specs.AskedTurn.{who_of, transfer_of, wants, bad_word}
 use Rattle.core_turns.specs.BeforeTurn.{seat_at_turn, atomic_access, BeforeTurn, ReadsAtomic}
@@ -62,8 +62,7 @@ use Rattle.lf_model.specs.declared.trace.CoreEnd.TheVariants.{Stop, Limit}
 use Rattle.lf_model.specs.declared.trace.Op.{Op}
 use Rattle.parity_slots.specs.SlotState.{IsAccess}
 use Rattle.turn_course.proofs.AtomicEnds.{EndsAtomic, ends_at_pc}
-use Rattle.turn_course.proofs.AtomicReads.{byte_or_word, some_bytes, is_a_length, part_is, word_read}
-use Rattle.turn_course.proofs.FillBytes.{reads_number}
+use Rattle.turn_course.proofs.AtomicReads.{byte_or_word, some_bytes, is_a_length, part_is, word_read, reads_number}
 use Rattle.turn_course.proofs.TurnBegins.{here, needs, before, place_is, makes_turn_at, wanted_is, none_waiting, none_in_buffer, all_log, count, few_wait, without_entry}
 use Rattle.turn_course.proofs.TurnLines.{lines_caught, lines_exchanged, same_lines}
 use Rattle.turn_course.proofs.TurnStops.{earlier, past_same, ok_is, err_is}

@@ -12,7 +12,7 @@ use Rattle.core_course.proofs.Running.{ground_running}
 use Rattle.core_course.proofs.StopSees.{given_same, sees_end, none_waits, none_is_lost, loses_none}
 use Rattle.core_course.proofs.StopTurns.{StopShown, stops_core}
 use Rattle.core_course.proofs.TurnGround.{turn_place}
-use Rattle.turn_course.proofs.TurnLines.{HasLine, lines_caught, lines_fetched}
+use Rattle.turn_course.proofs.TurnLines.{lines_caught, lines_fetched}
 use Rattle.core_course.specs.CoreOk.{buffer_of, CoreOk}
 use Rattle.core_course.specs.Lines.{PortLines, LinesAre}
 use Rattle.core_parts.specs.Completes.{CompletesNone}
@@ -24,6 +24,7 @@ use Rattle.core_turns.proofs.Answers.{good}
 use Rattle.core_turns.proofs.Arrays.{arrays_ready}
 use Rattle.core_turns.proofs.DrainLemmas.{in_ram_placed}
 use Rattle.core_turns.proofs.Leaves.{fetch_turns, fetch_stops}
+use Rattle.core_turns.proofs.TextLine.{HasLine, text_filled_line}
 use Rattle.core_turns.specs.AfterTurn.{snooping, text_valid}
 use Rattle.core_turns.specs.AskedTurn.{asked_for, transfer_of, wants, bad_word}
 use Rattle.core_turns.specs.BeforeTurn.{seat_at_turn, BeforeTurn}
@@ -48,7 +49,6 @@ use Rattle.lf_model.specs.declared.step.Turn.TheVariants.{Fetch, Drain}
 use Rattle.lf_model.specs.declared.bus.Why.TheVariants as whys
 use Rattle.lf_model.specs.declared.trace.CoreEnd.{CoreEnd}
 use Rattle.lf_model.specs.declared.trace.CoreEnd.TheVariants.{Stop, Limit}
-use Rattle.turn_course.proofs.FilledLine.{text_bytes}
 use Rattle.turn_course.proofs.TurnBegins.{here, needs, before, place_is, makes_turn_at, wanted_is, none_waiting, all_log, count, few_wait, without_entry}
 use Rattle.turn_course.proofs.TurnStops.{earlier, past_same}
 use Rattle.turn_course.specs.BusStep.{TakesTurn, answer_of, ended_by}
@@ -111,7 +111,7 @@ module _ (v : CoreValue) (bus : BusState) (line : ℕ) (why : Why) (pending : Li
 
   bytes : HasLine (initial_byte v.setup.image) line (text_valid v.setup.image t) (words_at bus line)
   bytes = subst (λ (s : Setup). HasLine (initial_byte s.image) line (text_valid s.image t) (words_at bus line)) (sym x.setup)
-      (text_bytes bus x.ok (asked_for ready bus turn) refl aligned x.in_ram.1)
+      (text_filled_line bus x.ok (asked_for ready bus turn) refl aligned x.in_ram.1)
 
   module _ (did : Did) (is : answer_of bus turn v ≡ Ok did) where
     abbrev new : CoreValue

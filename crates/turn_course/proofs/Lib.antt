@@ -2,7 +2,6 @@ pub mod WaitsNone
 pub mod TurnBegins
 pub mod TurnStops
 pub mod TurnLines
-pub mod FillBytes
 pub mod FilledLine
 pub mod Fetches
 pub mod Loads

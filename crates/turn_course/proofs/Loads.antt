@@ -12,7 +12,7 @@ use Rattle.core_course.proofs.Running.{ground_running}
 use Rattle.core_course.proofs.StopSees.{given_same, sees_end, none_waits, none_is_lost, loses_none}
 use Rattle.core_course.proofs.StopTurns.{StopShown, stops_core}
 use Rattle.core_course.proofs.TurnGround.{turn_place}
-use Rattle.turn_course.proofs.TurnLines.{HasLine, lines_caught, lines_loaded}
+use Rattle.turn_course.proofs.TurnLines.{lines_caught, lines_loaded}
 use Rattle.core_course.specs.CoreOk.{buffer_of, CoreOk}
 use Rattle.core_course.specs.Lines.{PortLines, LinesAre}
 use Rattle.core_parts.specs.Completes.{CompletesNone}
@@ -24,6 +24,7 @@ use Rattle.core_turns.proofs.Answers.{good}
 use Rattle.core_turns.proofs.Arrays.{arrays_ready}
 use Rattle.core_turns.proofs.DrainLemmas.{in_ram_placed}
 use Rattle.core_turns.proofs.Leaves.{load_turns, load_stops}
+use Rattle.core_turns.proofs.TextLine.{HasLine}
 use Rattle.core_turns.specs.AfterTurn.{snooping, data_valid}
 use Rattle.core_turns.specs.AskedTurn.{asked_for, transfer_of, wants, bad_word}
 use Rattle.core_turns.specs.BeforeTurn.{seat_at_turn, BeforeTurn}

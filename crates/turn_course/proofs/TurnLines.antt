@@ -1,13 +1,12 @@
 -- What a turn leaves of the lines of a core's caches: the data cache catches up with the log, and the transfer fills a line, drains a
 -- store, or exchanges a number.
-use Rattle.std.proofs.Common.{◌≡◌, ◌∙◌, ◌/◌, ◌%◌, ◌<◌, ◌++◌, ◌^◌, ℕ, List, [], ◌∷◌, fold, map, take, drop, slice_index, ap, sym, subst}
+use Rattle.std.proofs.Common.{◌≡◌, ◌∙◌, ◌<◌, ◌++◌, ◌^◌, ℕ, List, [], ◌∷◌, fold, map, take, drop, ap, sym, subst}
 use Rattle.std.proofs.lemmas.List.{append_assoc, take-append-drop}
-use Rattle.std.specs.Int.{bit_at}
 use Rattle.std.specs.List.{AllByRecursion as Each}
 use Rattle.core_parts.specs.PortState.{PortState}
 use Rattle.core_course.specs.Lines.{PortLines}
+use Rattle.core_turns.proofs.TextLine.{HasLine}
 use Rattle.lf_model.specs.Caches.Change.{snooped}
-use Rattle.lf_model.specs.Operation.{byte_of}
 use Rattle.lf_model.specs.Value.{stored}
 use Rattle.lf_model.specs.declared.bus.Entry.{Entry}
 use Rattle.order_log.specs.LogState.{IsLogEntry}
@@ -18,10 +17,6 @@ use Rattle.parity_cache.specs.CacheState.{with_cache, filled_cache}
 use Rattle.parity_slots.specs.SlotState.{IsAccess}
 use Rattle.snoop.proofs.CaughtUp.{formed_caught, holds_caught}
 use Rattle.snoop.specs.Snooping.{address_of}
-
--- the line that is filled has these bytes in the words that are valid
-abbrev pub HasLine : (ℕ → ℕ) → ℕ → ℕ → List ℕ → Type 0
-HasLine byte addr valid words = (a : ℕ) → a / 32 ≡ addr / 32 → bit_at valid (a / 4 % 8) ≡ 1 → byte_of (slice_index words (a / 4 % 8)) 4 (a % 4) ≡ byte a
 
 module _ (initial : ℕ → ℕ) where
   -- ---- before the transfer
