@@ -112,6 +112,7 @@ unfolding effect
 ends_effect site s i =
     let here = ends_completed site s i in
     ends_trap s (ordinary_trap site s i) (with_reads (registers_read i) (completed site s i)) (record { ends = here.ends; writes = here.writes })
+
 -- the instruction at PC
 by_text : (setup : Setup) (core : ℕ) (s : State) (text : Bool)
     → EndsAtomic s (if text then effect (site_of setup core) s (instruction_of (word_at setup.image s.ctl.pc)) else fetch_trap s)

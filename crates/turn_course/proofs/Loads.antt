@@ -1,5 +1,5 @@
 -- A fill of the data cache keeps all that holds of the core: the words that the load wants were good, or the lowest bad one stops the core.
-use Rattle.std.proofs.Common.{◌≡◌, ◌∙◌, ◌+◌, ◌-◌, ◌%◌, ◌^◌, ◌<◌, ◌++◌, ℕ, true, nat_le, List, [], ◌∷◌, Some, None, Ok, Err, length, take, drop, refl, ap, sym, subst, arith}
+use Rattle.std.proofs.Common.{◌≡◌, ◌∙◌, ◌+◌, ◌%◌, ◌^◌, ◌<◌, ◌++◌, ℕ, true, nat_le, List, [], ◌∷◌, Some, None, Ok, Err, length, take, drop, refl, ap, sym, subst, arith}
 use Rattle.std.proofs.lemmas.List.{append-nil, take-append-drop}
 use Rattle.std.specs.Prelude.{find, slice_index}
 use Rattle.ahb_bus.proofs.TakenLemmas.{first_in}
