@@ -1,6 +1,6 @@
 -- The byte that a reader must read is that of the later of two places: the last store or atomic in memory before it that touches the
 -- address, and the last store of its own core with a smaller number that does, wherever that stands.
-use Rattle.std.proofs.Common.{◌≡◌, ◌∙◌, ◌<◌, ◌≤◌, ◌+◌, ◌++◌, ◌==◌, ◌&&◌, ◌||◌, ℕ, zero, suc, Bool, true, false, List, [], ◌∷◌, length, filter, map, max, get_or, refl, ap, subst, inl, inr, arith, get_or-append-add}
+use Rattle.std.proofs.Common.{◌≡◌, ◌∙◌, ◌<◌, ◌≤◌, ◌+◌, ◌++◌, ◌==◌, ◌&&◌, ◌||◌, ℕ, suc, Bool, true, false, List, [], ◌∷◌, length, filter, map, max, get_or, refl, ap, subst, inl, inr, arith, get_or-append-add}
 use Rattle.std.specs.Prelude.{if◌then◌else◌, nat_lt}
 use Rattle.std.proofs.lemmas.Bool.{cases_Bool, le-ltb}
 use Rattle.std.proofs.lemmas.List.{map-append, get_or_append_left}
@@ -8,26 +8,9 @@ use Rattle.lf_model.specs.Operation.{enters, stores, made, touches, byte_put}
 use Rattle.lf_model.specs.Value.{stored, own_before, candidates}
 use Rattle.lf_model.specs.declared.bus.Entry.{Entry}
 use Rattle.lf_model.specs.declared.trace.Op.{Op}
-use Rattle.tso_audit.proofs.Places.{no_op}
+use Rattle.tso_audit.specs.LastPlaces.{no_op, place_if, last_place, at_address, byte_before}
 
 -- ---- the last place that passes a test
-
-abbrev pub place_if : (Op → Bool) → ℕ → Op → ℕ
-place_if t n o = if t o then n + 1 else 0
-
--- one more than the last place of those that pass, where the first of these operations stands at place n; 0 where none passes
-abbrev pub last_place : (Op → Bool) → ℕ → List Op → ℕ
-last_place t n [] = 0
-last_place t n (o ∷ os) = max (place_if t n o) (last_place t (n + 1) os)
-
--- it passes, and its bytes hold the address
-abbrev pub at_address : ℕ → (Op → Bool) → Op → Bool
-at_address a p o = p o && touches a (made o)
-
--- the byte that the operation before this place puts at the address; before the first place the byte b
-abbrev pub byte_before : List Op → ℕ → ℕ → ℕ → ℕ
-byte_before order a b zero = b
-byte_before order a b (suc j) = byte_put a (made (get_or order j no_op))
 
 module _ (order : List Op) (a b : ℕ) where
   -- the operations of a part of the order stand at their places
@@ -79,7 +62,7 @@ last_append t n (x ∷ xs) ys =
 place_low : (t : Op → Bool) (n : ℕ) (o : Op) → place_if t n o ≤ n + 1
 place_low t n o = elim (cases_Bool (t o)) [ inl e ↦ rw e (omega arith) | inr e ↦ rw e (omega arith) ]
 
-last_low : (t : Op → Bool) (n : ℕ) (os : List Op) → last_place t n os ≤ n + length os
+pub last_low : (t : Op → Bool) (n : ℕ) (os : List Op) → last_place t n os ≤ n + length os
 last_low t n [] = omega arith
 last_low t n (o ∷ os) = omega (arith, place_low t n o, last_low t (n + 1) os)
 

@@ -3,3 +3,5 @@ pub mod LargestNumber
 pub mod Numbers
 pub mod OnceFirst
 pub mod LastPlace
+pub mod LaterPlaces
+pub mod FirstWrongRead

@@ -4,13 +4,7 @@ use Rattle.std.specs.Prelude.{slice_get}
 use Rattle.std.proofs.lemmas.Option.{slice_get-get_or}
 use Rattle.lf_model.specs.Ledger.Rule.{TriedBefore, NoneLeft}
 use Rattle.lf_model.specs.Places.{FailsFirst}
-use Rattle.lf_model.specs.declared.bus.OpKind.TheVariants as kinds
 use Rattle.lf_model.specs.declared.place.Place.{Place}
-use Rattle.lf_model.specs.declared.trace.Op.{Op}
-
--- no operation, which no place inside a list shows
-abbrev pub no_op : Op
-no_op = record { got = 0; put = 0; core = 0; k = 0; step = 0; addr = 0; kind = kinds.Load; len = 0; way = 0 }
 
 module _ {X : Type 0} (P : X → Type 0) (xs : List X) (i : ℕ) (d : X) (within : i < length xs) where
   pub at_place : P (get_or xs i d) → IfSome (slice_get xs i) P

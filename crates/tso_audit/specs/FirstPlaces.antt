@@ -1,9 +1,11 @@
 -- The first place at which each rule of the audit fails, none where it fails nowhere.
-use Rattle.std.specs.Prelude.{ℕ, ◌<◌, List, length, Option, All}
+use Rattle.std.specs.Prelude.{ℕ, ◌<◌, ◌≤◌, List, length, Option, All, IsTrue}
 use Rattle.lf_model.specs.Ledger.Rule.{TriedBefore, NoneLeft}
 use Rattle.lf_model.specs.Once.{OnceAtCore, OnceAtOrder, OnceAtTransfer, OnceAtFinal}
 use Rattle.lf_model.specs.Order.{LoadOpAt, StoreStoreAt}
 use Rattle.lf_model.specs.Places.{AtPlace}
+use Rattle.lf_model.specs.Start.{initial_byte, is_in_ram}
+use Rattle.lf_model.specs.Value.{ValueAt}
 use Rattle.lf_model.specs.declared.place.Place.{Place}
 use Rattle.lf_model.specs.declared.place.Place.TheVariants.{Core, Order, Transfer, Final}
 use Rattle.lf_model.specs.declared.setup.Setup.{Setup}
@@ -13,6 +15,14 @@ use Rattle.lf_model.specs.declared.trace.Trace.{Trace}
 -- each operation is of one of this many cores
 abbrev pub HasCoresBelow : ℕ → List Op → Type 0
 HasCoresBelow cores order = All (λ o. o.core < cores) order
+
+-- each operation lies in RAM of this size
+abbrev pub LieInRam : ℕ → List Op → Type 0
+LieInRam ram order = All (λ o. IsTrue (is_in_ram ram o.addr o.len)) order
+
+-- each operation has 8 bytes at most
+abbrev pub HaveEightBytes : List Op → Type 0
+HaveEightBytes order = All (λ o. o.len ≤ 8) order
 
 -- Once is tried at the cores, the operations, the transfers, and last at the counts of the trace
 abbrev pub OnceFailsFirst : Setup → Trace → Option Place → Type 0
@@ -31,3 +41,6 @@ LoadOpFailsFirst = OrderFailsFirst LoadOpAt
 
 abbrev pub StoreStoreFailsFirst : Trace → Option Place → Type 0
 StoreStoreFailsFirst = OrderFailsFirst StoreStoreAt
+
+abbrev pub ValueFailsFirst : Setup → Trace → Option Place → Type 0
+ValueFailsFirst setup = OrderFailsFirst (ValueAt (initial_byte setup.image))

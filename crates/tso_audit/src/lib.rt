@@ -1,13 +1,16 @@
 //! The audit of a trace: which of the rules of its promise fails first, and where.
 //!
 //! Each rule is tried over the definitions that say what a run means, with nothing of the machine. So far these are the rules that
-//! look at the order alone: how operations are numbered, and in which order a core's operations may stand.
+//! look at the order alone: how operations are numbered, in which order a core's operations may stand, and what its loads and
+//! atomics may read.
 #![tactic(auto)]
 
 mod parts;
+mod reading;
 mod sequence;
 mod verdict;
 
 pub use parts::once;
+pub use reading::value;
 pub use sequence::{load_op, store_store};
 pub use verdict::{Rule, Verdict};

@@ -9,14 +9,14 @@ use lf_model::place::Place;
 use lf_model::trace::{Op, Trace};
 
 /// A load or an atomic.
-fn reads(op: &Op) -> bool
+pub(crate) fn reads(op: &Op) -> bool
     ensures { result ≡ reads op.now }
 {
     matches!(op.kind, OpKind::Load | OpKind::Atomic)
 }
 
 /// A store or an atomic, lost or not.
-fn stores(op: &Op) -> bool
+pub(crate) fn stores(op: &Op) -> bool
     ensures { result ≡ stores op.now }
 {
     matches!(op.kind, OpKind::Store | OpKind::Atomic | OpKind::Lost)

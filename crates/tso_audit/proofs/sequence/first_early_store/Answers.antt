@@ -2,8 +2,8 @@ use Rattle.std.proofs.Common.{◌∙◌, ◌<◌, ℕ, refl, get_or, sym, arith,
 use Rattle.lf_model.specs.Order.{StoreStoreAt}
 use Rattle.lf_model.specs.Places.{AtPlace}
 use Rattle.tso_audit.proofs.LargestNumber.{keeps_more}
-use Rattle.tso_audit.proofs.Numbers.{store_own, store_of, number_of_store, store_store_fails, store_store_passes}
-use Rattle.tso_audit.proofs.Places.{no_op}
+use Rattle.tso_audit.proofs.Numbers.{store_own, number_of_store, store_store_fails, store_store_passes}
+use Rattle.tso_audit.specs.LastPlaces.{no_op, store_of}
 use Rattle.tso_audit.proofs.sequence.first_early_store.Goals as goal
 
 pub returns-then-is_early_store : goal.returns-then-is_early_store

@@ -1,5 +1,5 @@
 use Rattle.std.proofs.Common.{◌≡◌, ℕ, ◌<◌, length, take}
-use Rattle.tso_audit.proofs.Numbers.{store_of}
+use Rattle.tso_audit.specs.LastPlaces.{store_of}
 use Rattle.lf_model.specs.Order.{StoreStoreAt}
 use Rattle.lf_model.specs.Places.{AtPlace}
 use Rattle.tso_audit.proofs.LargestNumber.{Keeps}
