@@ -5,3 +5,4 @@ pub mod OnceFirst
 pub mod LastPlace
 pub mod LaterPlaces
 pub mod FirstWrongRead
+pub mod WatchedWords

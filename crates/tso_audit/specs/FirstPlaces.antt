@@ -11,6 +11,7 @@ use Rattle.lf_model.specs.declared.place.Place.TheVariants.{Core, Order, Transfe
 use Rattle.lf_model.specs.declared.setup.Setup.{Setup}
 use Rattle.lf_model.specs.declared.trace.Op.{Op}
 use Rattle.lf_model.specs.declared.trace.Trace.{Trace}
+use Rattle.lf_model.specs.declared.trace.Word2.{Word2}
 
 -- each operation is of one of this many cores
 abbrev pub HasCoresBelow : ℕ → List Op → Type 0
@@ -19,6 +20,10 @@ HasCoresBelow cores order = All (λ o. o.core < cores) order
 -- each operation lies in RAM of this size
 abbrev pub LieInRam : ℕ → List Op → Type 0
 LieInRam ram order = All (λ o. IsTrue (is_in_ram ram o.addr o.len)) order
+
+-- each watched word lies in RAM of this size
+abbrev pub WatchRam : ℕ → List Word2 → Type 0
+WatchRam ram watch = All (λ word. IsTrue (is_in_ram ram word.addr 4)) watch
 
 -- each operation has 8 bytes at most
 abbrev pub HaveEightBytes : List Op → Type 0

@@ -1,11 +1,12 @@
 -- Where each byte of RAM was last put: of the stores and atomics in memory so far, and of those of one core. The audit keeps one
 -- more than such a place for each byte, and 0 where there is none.
-use Rattle.std.specs.Prelude.{ℕ, zero, suc, true, ◌≡◌, ◌<◌, ◌≤◌, ◌+◌, ◌-◌, ◌&&◌, Bool, List, [], ◌∷◌, length, max, min, Option, Some, None, take, get_or, slice_index, if◌then◌else◌}
+use Rattle.std.specs.Prelude.{ℕ, zero, suc, true, ◌≡◌, ◌<◌, ◌≤◌, ◌+◌, ◌-◌, ◌&&◌, Bool, List, [], ◌∷◌, length, max, min, Option, Some, None, IfSome, take, get_or, slice_index, if◌then◌else◌}
 use Rattle.lf_model.specs.Operation.{of_core, reads, enters, stores, made, touches, byte_put}
-use Rattle.lf_model.specs.Start.{ram_first}
+use Rattle.lf_model.specs.Start.{ram_first, number_at}
 use Rattle.lf_model.specs.Value.{ValueAt}
 use Rattle.lf_model.specs.declared.bus.OpKind.TheVariants as kinds
 use Rattle.lf_model.specs.declared.trace.Op.{Op}
+use Rattle.lf_model.specs.declared.trace.Word2.{Word2}
 
 -- no operation, which no place inside a list shows
 abbrev pub no_op : Op
@@ -50,6 +51,14 @@ AreBeforeReads order c i j = (s r : ℕ) → s < j → i ≤ r → r < length or
 -- the byte at the start, of the bytes of RAM from its first address on
 abbrev pub start_in : List ℕ → ℕ → ℕ
 start_in initial a = slice_index initial (a - ram_first)
+
+-- the byte of RAM that stands after the places of a table
+abbrev pub byte_left : List Op → List ℕ → List ℕ → ℕ → ℕ
+byte_left order initial places a = byte_before order a (start_in initial a) (slice_index places (a - ram_first))
+
+-- a watched word has no value, or that which stands in RAM
+abbrev pub ShowsLeft : List Op → List ℕ → List ℕ → Word2 → Type 0
+ShowsLeft order initial places word = IfSome word.value (λ value. value ≡ number_at (byte_left order initial places) word.addr 4)
 
 -- Value, of the loads and atomics of core c alone
 abbrev pub ValueOf : ℕ → (ℕ → ℕ) → List Op → Op → List Op → Type 0

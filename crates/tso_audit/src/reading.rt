@@ -70,7 +70,7 @@ fn note(places: &mut [u32], op: &Op, place: u32)
 }
 
 /// Notes a store or an atomic that reaches memory.
-fn note_entered(places: &mut [u32], op: &Op, place: u32)
+pub(crate) fn note_entered(places: &mut [u32], op: &Op, place: u32)
     requires ram { IsTrue (is_in_ram (length places.old) op.now.addr op.now.len) }
     ensures places { (x : ℕ) → x < length places.old
         → slice_index places.new x ≡ max (slice_index places.old x) (if at_address (ram_first + x) enters op.now then place else 0) }
@@ -123,7 +123,7 @@ fn note_own(places: &mut [u32], order: &[Op], core: u32, k: u32, from: usize) ->
 
 /// The byte of RAM at an address that stands after its later place: that which the operation before the place put, or that at the
 /// start.
-fn byte_before(order: &[Op], at_start: &[u8], places: &[u32], addr: u32) -> u8
+pub(crate) fn byte_before(order: &[Op], at_start: &[u8], places: &[u32], addr: u32) -> u8
     requires first { ram_first ≤ addr }
     requires end { addr - ram_first < length places.now }
     requires same_size { length at_start.now ≡ length places.now }
