@@ -6,3 +6,4 @@ pub mod LastPlace
 pub mod LaterPlaces
 pub mod FirstWrongRead
 pub mod WatchedWords
+pub mod ThreadReplay
