@@ -10,3 +10,9 @@ pub mod ScheduleFollows
 pub mod DrainsCounted
 pub mod StoresKept
 pub mod NeedsUnscheduled
+pub mod Joining
+pub mod MachineKeeps
+pub mod CoresMade
+pub mod Gathering
+pub mod TraceFollows
+pub mod MachineStarts
