@@ -1,0 +1,2 @@
+pub mod StartedInside
+pub mod NewInside

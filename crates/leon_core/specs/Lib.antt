@@ -1,0 +1,2 @@
+pub mod RoomInside
+pub mod CoreInside
