@@ -136,8 +136,8 @@ of_table document none =
       window = window;
       buffer = buffer;
       watch = watch_empty document c (kept document c 5 none (lit< tt));
-      fetch_cache = record { ways = fetch_ways; sets = in_range document FetchSets 7 64 none (lit< tt) refl refl refl };
-      load_cache = record { ways = load_ways; sets = in_range document LoadSets 9 64 none (lit< tt) refl refl refl };
+      fetch_cache = record { some_way = fetch_ways.0; few_ways = fetch_ways.1; sets = in_range document FetchSets 7 64 none (lit< tt) refl refl refl };
+      load_cache = record { some_way = load_ways.0; few_ways = load_ways.1; sets = in_range document LoadSets 9 64 none (lit< tt) refl refl refl };
       scrub_lines = (eqb-true (c.scrub.first % 32) 0 first.0, scrubbed.0, scrubbed.1);
       scrub_in_ram = scrubbed.2;
       scrub_turns = omega (arith, turns.1);
