@@ -1,5 +1,5 @@
 -- A core at reset keeps what its type promises.
-use Rattle.std.proofs.Common.{◌≡◌, ◌∙◌, ℕ, ◌+◌, ◌<◌, ◌≤◌, ◌%◌, ◌^◌, List, [], length, refl, sym, ap, subst, arith}
+use Rattle.std.proofs.Common.{◌≡◌, ℕ, ◌+◌, ◌<◌, List, [], length, refl, sym, ap, subst, arith}
 use Rattle.std.specs.List.{AllByRecursion}
 use Rattle.core_parts.proofs.AtReset.{can_start, starts}
 use Rattle.core_parts.specs.CanRun.{CanRun}

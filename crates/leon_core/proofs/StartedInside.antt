@@ -1,5 +1,5 @@
 -- A core in whose next step the flips struck keeps what its type promises.
-use Rattle.std.proofs.Common.{◌≡◌, ◌∙◌, ℕ, ◌+◌, ◌<◌, ◌≤◌, List, length, refl, sym, ap, subst, arith}
+use Rattle.std.proofs.Common.{◌≡◌, ◌∙◌, ℕ, ◌+◌, ◌<◌, List, sym, ap, subst, arith}
 use Rattle.core_parts.specs.CanRun.{CanRun}
 use Rattle.core_parts.specs.IsCore.{IsCore}
 use Rattle.core_parts.specs.Strikes.{arrays_of, with_arrays, own_flips}

@@ -1,2 +1,3 @@
 pub mod RoomInside
 pub mod CoreInside
+pub mod Ends

@@ -1,4 +1,4 @@
-use Rattle.std.proofs.Common.{◌≡◌, ◌∙◌, ap, sym, subst}
+use Rattle.std.proofs.Common.{◌∙◌, ap, sym, subst}
 use Rattle.core_course.specs.Calls.{MayStep}
 use Rattle.core_course.specs.CoreOk.{CoreOk}
 use Rattle.core_parts.specs.CoreValue.{CoreValue}
