@@ -149,7 +149,7 @@ module _ (script : List Flip) where
         ∙ ap (λ (turn : ℕ). with_answer (words_begun script turn n.words) t) same.turns);
   }
 
-  same_turns : (named : List Word2) (m n : Memory) (ts : List Transfer) → Same m n → Same (fold (memory_turn script named) m ts) (fold (memory_turn script []) n ts)
+  pub same_turns : (named : List Word2) (m n : Memory) (ts : List Transfer) → Same m n → Same (fold (memory_turn script named) m ts) (fold (memory_turn script []) n ts)
   same_turns named m n [] same = same
   same_turns named m n (t ∷ ts) same = same_turns named (memory_turn script named m t) (memory_turn script [] n t) ts (same_turn named m n t same)
 

@@ -10,7 +10,7 @@ use Rattle.lf_model.specs.Course.Turned.{own_turn}
 use Rattle.lf_model.specs.Ledger.Steps.{own_transfers}
 use Rattle.lf_model.specs.declared.bus.Transfer.{Transfer}
 
-same_either_way : (a b : ℕ) → (a == b) ≡ (b == a)
+pub same_either_way : (a b : ℕ) → (a == b) ≡ (b == a)
 same_either_way a b = elim (cases_Bool (b == a)) [
   | inl is_so ↦ rw is_so (eq-eqb a b (sym (eqb-true b a is_so)))
   | inr not_so ↦ rw not_so (ne_eqb a b (λ same. eqb-false b a not_so (sym same)))

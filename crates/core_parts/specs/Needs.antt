@@ -1,16 +1,11 @@
--- The turn on the bus that a step needs, and the answer of a step by what it needs.
+-- The turn on the bus that a step needs: its kind, its cause, and where it aims.
 use Rattle.std.specs.Prelude.{ℕ, ◌≡◌, Option, Some, None}
 use Rattle.lf_model.specs.Caches.Slot.{line_of}
-use Rattle.lf_model.specs.Course.Outcome.{Need}
-use Rattle.lf_model.specs.Course.Outcome.Need.{NoTurn, RegisterStop}
-use Rattle.lf_model.specs.Course.Outcome.Need.{Turn as Asks}
 use Rattle.lf_model.specs.Effect.{Access, AccessKind, Effect}
 use Rattle.lf_model.specs.declared.bus.TurnKind.{TurnKind}
 use Rattle.lf_model.specs.declared.bus.TurnKind.TheVariants as kinds
 use Rattle.lf_model.specs.declared.bus.Why.{Why}
 use Rattle.lf_model.specs.declared.bus.Why.TheVariants as whys
-use Rattle.lf_model.specs.declared.step.Did.{Did}
-use Rattle.lf_model.specs.declared.step.Did.TheVariants as did
 use Rattle.lf_model.specs.declared.step.Turn.{Turn}
 use Rattle.lf_model.specs.declared.step.Turn.TheVariants.{Fetch, Load, Atomic, Drain, Snoop}
 
@@ -45,17 +40,5 @@ abbrev pub IsTurnOf : ℕ → Effect → Turn → Type 0
 IsTurnOf pc e (Fetch line why) = line ≡ line_of pc
 IsTurnOf pc e (Load addr len why) = IsLoadOf addr len e.access
 IsTurnOf pc e (Atomic addr len new rd) = IsAtomicOf (Atomic addr len new rd) e.access
-IsTurnOf pc e (Drain why) = why ≡ why
-IsTurnOf pc e Snoop = whys.Window ≡ whys.Window
-
--- the answer of a step by what it needs: it needs no turn, and its instruction retires or takes the core into error mode; or it needs
--- one, of this kind and cause; or a bad register cell, with this syndrome, stops the core
-abbrev pub IsAnswer : Need → Option ℕ → ℕ → Did → Type 0
-IsAnswer NoTurn None syn answer = answer ≡ did.Retired
-IsAnswer NoTurn (Some tt_) syn answer = answer ≡ did.Halt tt_
-IsAnswer (Asks kind why) halt syn (did.Need turn) = (kind_of turn ≡ kind) × (why_of turn ≡ why)
-IsAnswer (Asks kind why) halt syn did.Retired = ⊥
-IsAnswer (Asks kind why) halt syn did.Turned = ⊥
-IsAnswer (Asks kind why) halt syn (did.Halt tt_) = ⊥
-IsAnswer (Asks kind why) halt syn (did.Stop tt_ place s) = ⊥
-IsAnswer (RegisterStop cell) halt syn answer = answer ≡ did.Stop 0x20 cell syn
+IsTurnOf pc e (Drain why) = Unit {0}
+IsTurnOf pc e Snoop = Unit {0}

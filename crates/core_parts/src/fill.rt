@@ -74,8 +74,8 @@ fn good_word(got: &Line, addr: u32) -> Result<(), Bad>
 ///
 /// The lowest of them that is bad.
 pub fn good_wanted(got: &Line, addr: u32, len: u8) -> Result<(), Bad>
-    requires { IsAccess addr len }
-    ensures { IsAnswered got.now addr (lowest_bad got.now addr len) result }
+    requires access { IsAccess addr len }
+    ensures answer { IsAnswered got.now addr (lowest_bad got.now addr len) result }
 {
     good_word(got, addr)?;
     if len == 8 {

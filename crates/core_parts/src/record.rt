@@ -111,21 +111,21 @@ impl Record {
 
     /// How many steps the core made.
     pub fn steps(&self) -> u32
-        ensures { result ≡ self.now.steps }
+        ensures steps { result ≡ self.now.steps }
     {
         self.steps
     }
 
     /// How many entries the log had as its last turn ended.
     pub fn seen(&self) -> u32
-        ensures { result ≡ self.now.seen }
+        ensures entries { result ≡ self.now.seen }
     {
         self.seen
     }
 
     /// How many operations it made.
     pub fn made(&self) -> u32
-        ensures { result ≡ length self.now.ops }
+        ensures operations { result ≡ length self.now.ops }
     {
         self.ops.len() as u32
     }
@@ -139,8 +139,8 @@ impl Record {
 
     /// A step ends.
     pub fn end_step(&mut self)
-        requires { self.old.steps + 1 < 2 ^ 32 }
-        ensures { self.new ≡ record self.old { steps = self.old.steps + 1 } }
+        requires room { self.old.steps + 1 < 2 ^ 32 }
+        ensures ended { self.new ≡ record self.old { steps = self.old.steps + 1 } }
     {
         self.steps += 1;
     }
@@ -154,7 +154,7 @@ impl Record {
 
     /// A turn ends, after which the bus has made so many transfers.
     pub fn end_turn(&mut self, turns: u32)
-        ensures { self.new ≡ record self.old { turns = turns } }
+        ensures ended { self.new ≡ record self.old { turns = turns } }
     {
         self.turns = turns;
     }
@@ -182,7 +182,7 @@ impl Record {
 
     /// The stores from number `first` on never reach memory.
     pub fn lose_from(&mut self, first: u32)
-        ensures { self.new ≡ record self.old { ops = losing first self.old.ops } }
+        ensures lost { self.new ≡ record self.old { ops = losing first self.old.ops } }
     {
         lose_from(&mut self.ops, first);
     }

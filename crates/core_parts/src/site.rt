@@ -35,7 +35,7 @@ impl Site {
     ///
     /// Memory ran out.
     pub fn new(alloc: Global, s: &Setup) -> Result<Site, AllocError>
-        ensures { IfOk result (λ site. site ≡ s.now) }
+        ensures setup { IfOk result (λ site. site ≡ s.now) }
     {
         Ok(Site {
             text: TextMap::new(alloc, &s.image.text)?,
@@ -53,14 +53,14 @@ impl Site {
 
     /// One of the `len` bytes from this address on is text.
     pub fn touches_text(&self, addr: u32, len: u8) -> bool
-        ensures { result ≡ touches_text self.now.image.text addr len }
+        ensures touches { result ≡ touches_text self.now.image.text addr len }
     {
         self.text.touches_text(addr, len)
     }
 
     /// All the `len` bytes from this address on are in RAM.
     pub fn is_in_ram(&self, addr: u32, len: u8) -> bool
-        ensures { result ≡ is_in_ram self.now.config.ram addr len }
+        ensures within { result ≡ is_in_ram self.now.config.ram addr len }
     {
         addresses::is_in_ram(self.ram, addr, len)
     }

@@ -71,7 +71,7 @@ module _ (s : State) (e : Effect) where
   AimsBy over need = (kind : TurnKind) (why : Why) → need ≡ Turn kind why → Aims s.ctl.pc s e over kind why
 
   abbrev drain_aims : (over : Bool) (why : Why) → leaves_instruction why ≡ over → same_why why whys.Sched ≡ false → Aims s.ctl.pc s e over kinds.Store why
-  drain_aims over why leaves scheduled = record { kind_is = refl; why_is = refl; aimed = refl; leaves = leaves; scheduled = scheduled }
+  drain_aims over why leaves scheduled = record { kind_is = refl; why_is = refl; aimed = tt; leaves = leaves; scheduled = scheduled }
 
   -- the need of a turn with this kind and cause
   same_turn : (over : Bool) (kind kind' : TurnKind) (why why' : Why) → Turn kind why ≡ Turn kind' why' → Aims s.ctl.pc s e over kind why → Aims s.ctl.pc s e over kind' why'
@@ -126,7 +126,7 @@ module _ (s : State) (e : Effect) where
   })
 
   snoop_aims : AimsBy true (Turn kinds.Snoop whys.Window)
-  snoop_aims kind' why' is = same_turn true kinds.Snoop kind' whys.Window why' is (record { kind_is = refl; why_is = refl; aimed = refl; leaves = refl; scheduled = refl })
+  snoop_aims kind' why' is = same_turn true kinds.Snoop kind' whys.Window why' is (record { kind_is = refl; why_is = refl; aimed = tt; leaves = refl; scheduled = refl })
 
   outcome_aims : (et waits full : Bool) (cache : Cache) (out : Outcome) → leaves_by e.barrier ≡ false → Says e cache out → AimsBy false (outcome_needs et waits full out)
   outcome_aims et waits full cache NotTried barrier says = absurd says

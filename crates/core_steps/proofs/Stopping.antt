@@ -75,11 +75,11 @@ names_cell et waits full Atomic cell is = let turn : Turn kinds.Atomic whys.None
 names_cell et waits full (Barrier why) cell is = let none : NoTurn ≡ RegisterStop cell = drains_stop waits why cell NoTurn is in absurd cc
 names_cell et waits full Other cell is = absurd cc
 
-record NamesCell (over : Bool) (out : Outcome) (cell : ℕ) : Type 0 where
-  open_ : over ≡ false
-  out_is : out ≡ BadRegister cell
+pub record NamesCell (over : Bool) (out : Outcome) (cell : ℕ) : Type 0 where
+  pub open_ : over ≡ false
+  pub out_is : out ≡ BadRegister cell
 
-named_by : (over et waits full : Bool) (out : Outcome) (cell : ℕ) → step_needs over et waits full out ≡ RegisterStop cell → NamesCell over out cell
+pub named_by : (over et waits full : Bool) (out : Outcome) (cell : ℕ) → step_needs over et waits full out ≡ RegisterStop cell → NamesCell over out cell
 named_by true et waits full out cell is = let turn : Turn kinds.Snoop whys.Window ≡ RegisterStop cell = drains_stop waits whys.Window cell (Turn kinds.Snoop whys.Window) is in absurd cc
 named_by false et waits full out cell is = record { open_ = refl; out_is = names_cell et waits full out cell is }
 

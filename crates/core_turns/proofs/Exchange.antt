@@ -23,7 +23,8 @@ use Rattle.lf_model.specs.declared.bus.TurnKind.TheVariants.{Atomic}
 use Rattle.lf_model.specs.declared.trace.Word2.{Word2}
 use Rattle.core_turns.proofs.Arrays.{seen_all, arrays_exchanged}
 use Rattle.core_turns.specs.AfterTurn.{snooping, state_in, state_read, atomic_op, exchanged, turn_ended}
-use Rattle.core_turns.specs.BeforeTurn.{seat_at_turn, atomic_access, BeforeTurn, ReadsAtomic}
+use Rattle.core_turns.specs.BeforeTurn.{seat_at_turn, BeforeTurn, ReadsAtomic}
+use Rattle.v8_exec.specs.Accesses.{atomic_access}
 
 -- ---- a state that is not in error mode
 

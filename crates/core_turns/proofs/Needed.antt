@@ -24,13 +24,13 @@ module _ (g : Ground) (seat : Progress) (v : CoreValue) (s : IsSeat v g seat) wh
     pub by_schedule : v.phase ≡ Begun → is_past_steps g seat ≡ false → NeedsTurn g seat (Drain Sched) (arrays_in v.ports)
     by_schedule phase left = record {
       needed = rw (left, one_waits (rw phase at s.waits)) refl;
-      aimed = refl;
+      aimed = tt;
       tried = rw left (rw phase at s.arrays);
     }
 
     pub after_steps : v.phase ≡ Between → is_past_steps g seat ≡ true → NeedsTurn g seat (Drain End) (arrays_in v.ports)
     after_steps phase past = record {
       needed = rw (past, one_waits (rw phase at s.waits)) refl;
-      aimed = refl;
+      aimed = tt;
       tried = rw past (rw phase at s.arrays);
     }

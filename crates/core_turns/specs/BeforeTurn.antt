@@ -8,12 +8,13 @@ use Rattle.lf_model.specs.Course.Core.{Ground}
 use Rattle.lf_model.specs.Course.Course.{with_unseen}
 use Rattle.lf_model.specs.Course.Progress.{Progress}
 use Rattle.lf_model.specs.Course.Turn.{turn_attempt}
-use Rattle.lf_model.specs.Effect.{AccessKind, Access, cell_written}
+use Rattle.lf_model.specs.Effect.{cell_written}
 use Rattle.lf_model.specs.Records.OwnTurns.{next_effect}
 use Rattle.lf_model.specs.Run.{reads_of}
 use Rattle.lf_model.specs.State.{with_register, advanced}
 use Rattle.lf_model.specs.declared.bus.Entry.{Entry}
 use Rattle.lf_model.specs.declared.bus.Why.{Why}
+use Rattle.v8_exec.specs.Accesses.{atomic_access}
 use Rattle.core_turns.specs.AfterTurn.{unseen_in}
 
 -- its seat as the turn begins, with the stores of others in the log that it has not yet seen
@@ -29,10 +30,6 @@ pub record BeforeTurn (g : Ground) (seat : Progress) (v : CoreValue) (log : List
   pub going : halt_by v.phase ≡ None
   pub within : v.log_seen ≤ length log
   pub tried : arrays_in v.ports ≡ (turn_attempt g why (next_effect g seat) seat).arrays
-
--- the operation of LDSTUB or SWAP
-abbrev pub atomic_access : ℕ → ℕ → ℕ → ℕ → Access
-atomic_access addr len new rd = record { kind = AccessKind.Atomic; addr = addr; len = len; put = new; rd = rd }
 
 -- the instruction at PC is LDSTUB or SWAP with this operation. It reads this number, which goes to its register.
 pub record ReadsAtomic (g : Ground) (seat : Progress) (addr len new rd got : ℕ) : Type 0 where

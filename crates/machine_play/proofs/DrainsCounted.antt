@@ -1,8 +1,8 @@
 -- A core has drained as many stores as transfers on the bus are its drains.
-use Rattle.std.proofs.Common.{◌≡◌, ◌∙◌, ◌+◌, ◌-◌, ◌==◌, ℕ, zero, suc, Bool, true, false, List, [], ◌∷◌, cond, count_by, fold, map, refl, ap, sym, arith, inl, inr}
-use Rattle.std.proofs.lemmas.Bool.{cases_Bool, eqb-true, eq-eqb, eqb-false, ne_eqb}
+use Rattle.std.proofs.Common.{◌≡◌, ◌∙◌, ◌+◌, ◌-◌, ◌==◌, ℕ, zero, suc, Bool, true, false, List, [], ◌∷◌, cond, count_by, fold, map, refl, ap, sym, arith}
 use Rattle.std.specs.Int.{from_bool}
 use Rattle.core_laws.proofs.ListLemmas.{count_append}
+use Rattle.core_laws.proofs.TurnCount.{same_either_way}
 use Rattle.core_parts.specs.Seat.{seat}
 use Rattle.lf_model.proofs.CourseLemmas.{observe_own, observe_others}
 use Rattle.lf_model.specs.Course.Core.{Ground}
@@ -14,12 +14,6 @@ use Rattle.lf_model.specs.Ledger.Account.{without_length}
 use Rattle.lf_model.specs.Ledger.Steps.{own_transfers}
 use Rattle.lf_model.specs.declared.bus.Transfer.{Transfer}
 use Rattle.machine_play.specs.CoreMade.{is_drain}
-
-same_either_way : (a b : ℕ) → (a == b) ≡ (b == a)
-same_either_way a b = elim (cases_Bool (b == a)) [
-  | inl is_so ↦ rw is_so (eq-eqb a b (sym (eqb-true b a is_so)))
-  | inr not_so ↦ rw not_so (ne_eqb a b (λ same. eqb-false b a not_so (sym same)))
-]
 
 one_drain : (b : Bool) → cond b 1 0 + 0 ≡ from_bool b
 one_drain true = refl

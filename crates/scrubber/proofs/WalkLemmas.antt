@@ -45,7 +45,7 @@ turns_on range w (t ∷ ts) = by (nat_eq t.master scrubber) refl (turns_on range
         ap (λ (b : Bool). length (cond b (t ∷ own_transfers scrubber ts) (own_transfers scrubber ts))) is in
         omega (arith, rest, step, more)
 
-turns_made : (range : Range) (ts : List Transfer) → (walk_after range ts).turns ≡ length (own_transfers scrubber ts)
+pub turns_made : (range : Range) (ts : List Transfer) → (walk_after range ts).turns ≡ length (own_transfers scrubber ts)
 turns_made range ts = turns_on range (walk_start range) ts ∙ (let e : 0 + length (own_transfers scrubber ts) ≡ length (own_transfers scrubber ts) = omega arith in e)
 
 -- so it has one left on the bus

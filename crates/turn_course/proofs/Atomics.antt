@@ -61,7 +61,8 @@ use Rattle.lf_model.specs.declared.trace.CoreEnd.{CoreEnd}
 use Rattle.lf_model.specs.declared.trace.CoreEnd.TheVariants.{Stop, Limit}
 use Rattle.lf_model.specs.declared.trace.Op.{Op}
 use Rattle.parity_slots.specs.SlotState.{IsAccess}
-use Rattle.turn_course.proofs.AtomicEnds.{EndsAtomic, ends_at_pc}
+use Rattle.turn_course.proofs.AtomicEnds.{ends_at_pc}
+use Rattle.v8_exec.proofs.AtomicLemmas.{EndsAtomic}
 use Rattle.turn_course.proofs.AtomicReads.{byte_or_word, some_bytes, is_a_length, part_is, word_read, reads_number}
 use Rattle.turn_course.proofs.TurnBegins.{here, needs, before, place_is, makes_turn_at, wanted_is, none_waiting, none_in_buffer, all_log, count, few_wait, without_entry}
 use Rattle.turn_course.proofs.TurnLines.{lines_caught, lines_exchanged, same_lines}

@@ -39,9 +39,9 @@ rd_in None = 0
 rd_in (Some a) = a.rd
 
 -- if the operation is an atomic, its register gets what it reads, and no other cell is written
-record EndsAtomic (s : State) (e : Effect) : Type 0 where
-  ends : (addr len new rd got : ℕ) → e.access ≡ Some (atomic_access addr len new rd) → e.next got ≡ advanced (with_register rd got s)
-  writes : (addr len new rd : ℕ) → e.access ≡ Some (atomic_access addr len new rd) → e.writes ≡ cell_written s rd
+pub record EndsAtomic (s : State) (e : Effect) : Type 0 where
+  pub ends : (addr len new rd got : ℕ) → e.access ≡ Some (atomic_access addr len new rd) → e.next got ≡ advanced (with_register rd got s)
+  pub writes : (addr len new rd : ℕ) → e.access ≡ Some (atomic_access addr len new rd) → e.writes ≡ cell_written s rd
 
 -- the operation is no atomic
 ends_other : (s : State) (e : Effect) → ((a : Access) → a.kind ≡ AccessKind.Atomic → e.access ≡ Some a → ⊥) → EndsAtomic s e
@@ -50,7 +50,7 @@ ends_other s e other = record {
   writes = λ addr len new rd is. absurd (other (atomic_access addr len new rd) refl is);
 }
 
-ends_without : (s : State) (e : Effect) → e.access ≡ None → EndsAtomic s e
+pub ends_without : (s : State) (e : Effect) → e.access ≡ None → EndsAtomic s e
 ends_without s e none = ends_other s e (λ a atomic is. let k : AccessKind.Load ≡ a.kind = ap kind_in (sym none ∙ is) in absurd (cc))
 
 ends_trap : (s : State) (trap : Option ℕ) (e : Effect) → EndsAtomic s e → EndsAtomic s (unless_trap trap s e)
@@ -158,7 +158,7 @@ ends_completed site s FpQueue = ends_without s _ refl
 ends_completed site s CpOff = ends_without s _ refl
 ends_completed site s CpQueue = ends_without s _ refl
 
-ends_effect : (site : Site) (s : State) (i : Instr) → EndsAtomic s (effect site s i)
+pub ends_effect : (site : Site) (s : State) (i : Instr) → EndsAtomic s (effect site s i)
 unfolding effect
 ends_effect site s i =
     let here = ends_completed site s i in

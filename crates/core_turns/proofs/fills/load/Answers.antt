@@ -18,7 +18,7 @@ returns-in_err-good_wanted-clause-answer c = λ pc.
     let p = err_from_is_err_and c.from_residual.result c.from_residual.ensures.1 in
     rw (p.1, p.2)
     (fill_met c.args.bus.now c.requires.ok (asked_fill c.args.bus.now c.args.who Load c.args.why (line_of c.args.addr) c.args.parts.now.arrays.data_cache.cache) refl c.fill_data-got.result c.fill_data-got.ensures.line
-    (turns.Load c.args.addr c.args.len c.args.why) pc c.args.addr c.args.len refl _ c.in_err-good_wanted.field-0.0 refl c.in_err-good_wanted.ensures)
+    (turns.Load c.args.addr c.args.len c.args.why) pc c.args.addr c.args.len refl _ c.in_err-good_wanted.field-0.0 refl c.in_err-good_wanted.ensures.answer)
 
 pub returns-clause-filled : goal.returns-clause-filled
 returns-clause-filled c = ap (λ cache. record c.args.parts.now { arrays = record c.args.parts.now.arrays { data_cache = cache } }) c.fill_data-got.ensures.filled
@@ -26,4 +26,4 @@ returns-clause-filled c = ap (λ cache. record c.args.parts.now { arrays = recor
 pub returns-clause-answer : goal.returns-clause-answer
 returns-clause-answer c = λ pc.
     fill_good c.args.bus.now c.requires.ok (asked_fill c.args.bus.now c.args.who Load c.args.why (line_of c.args.addr) c.args.parts.now.arrays.data_cache.cache) refl c.fill_data-got.result c.fill_data-got.ensures.line
-    (turns.Load c.args.addr c.args.len c.args.why) pc c.args.addr c.args.len refl c.in_ok-good_wanted.field-0 c.in_ok-good_wanted.ensures
+    (turns.Load c.args.addr c.args.len c.args.why) pc c.args.addr c.args.len refl c.in_ok-good_wanted.field-0 c.in_ok-good_wanted.ensures.answer
