@@ -32,7 +32,7 @@ use Rattle.core_turns.proofs.Leaves.{atomic_stops}
 use Rattle.core_turns.proofs.TextLine.{stored_small}
 use Rattle.core_turns.specs.AfterTurn.{snooping, exchanged, turn_ended}
 use Rattle.core_turns.specs.AskedTurn.{who_of, transfer_of, wants, bad_word}
-use Rattle.core_turns.specs.BeforeTurn.{seat_at_turn, atomic_access, BeforeTurn, ReadsAtomic}
+use Rattle.core_turns.specs.BeforeTurn.{seat_at_turn, BeforeTurn, ReadsAtomic}
 use Rattle.core_turns.specs.MakesTurn.{next_atomic}
 use Rattle.lf_model.specs.Bus.Words.{word_of}
 use Rattle.lf_model.specs.Course.Core.{Given, given_by}
@@ -68,6 +68,7 @@ use Rattle.turn_course.proofs.TurnBegins.{here, needs, before, place_is, makes_t
 use Rattle.turn_course.proofs.TurnLines.{lines_caught, lines_exchanged, same_lines}
 use Rattle.turn_course.proofs.TurnStops.{earlier, past_same, ok_is, err_is}
 use Rattle.turn_course.specs.BusStep.{TakesTurn, answer_of, ended_by}
+use Rattle.v8_exec.specs.Accesses.{atomic_access}
 
 no_drain : (addr len new rd : ℕ) → Atomic addr len new rd ≡ Drain whys.End → ⊥
 no_drain addr len new rd is = absurd cc

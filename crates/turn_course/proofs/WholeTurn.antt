@@ -91,15 +91,19 @@ entered_by v e before after true own is = (e, (own, is))
 entered_by v e before after false own is = is ∙ append-nil before
 
 module _ (v : CoreValue) (bus : BusState) where
-  pub turn_adds : (turn : Turn) (pending : List Pending) → TakesTurn v bus turn pending → AddsTransfer v bus (bus_after bus turn pending v) (transfer_at bus turn v)
-  turn_adds (Fetch line why) pending x = record { made = refl; own = refl; step = refl; entry = append-nil bus.log }
-  turn_adds (Load addr len why) pending x = record { made = refl; own = refl; step = refl; entry = append-nil bus.log }
+  pub turn_adds : (turn : Turn) (pending : List Pending) → TakesTurn v bus turn pending → AddsTransfer turn v bus (bus_after bus turn pending v) (transfer_at bus turn v)
+  turn_adds (Fetch line why) pending x = record { made = refl; own = refl; step = refl; kind = refl; why = refl; entry = append-nil bus.log; setup = refl; idle = refl }
+  turn_adds (Load addr len why) pending x = record { made = refl; own = refl; step = refl; kind = refl; why = refl; entry = append-nil bus.log; setup = refl; idle = refl }
   turn_adds (Atomic addr len new rd) pending x = record {
     made = refl;
     own = refl;
     step = refl;
+    kind = refl;
+    why = refl;
     entry = entered_by v (atomic_entry (who_of v) (next_atomic addr len new v) (value_at (memory_of bus) (word_of addr))) bus.log
         (bus_after bus (Atomic addr len new rd) pending v).log (enters_log (transfer_at bus (Atomic addr len new rd) v)) refl (atomic_entered v bus addr len new rd pending x);
+    setup = refl;
+    idle = refl;
   }
   turn_adds (Drain why) [] x = absurd (none_waits x.in_ram.0)
   turn_adds (Drain why) (p ∷ ps) x =
@@ -109,7 +113,11 @@ module _ (v : CoreValue) (bus : BusState) where
         made = ap (λ u. bus.transfers ++ u ∷ []) (sym is);
         own = ap (λ (u : Transfer). u.master) is;
         step = ap (λ (u : Transfer). u.step) is;
+        kind = ap (λ (u : Transfer). u.kind) is;
+        why = ap (λ (u : Transfer). u.why) is;
         entry = subst (λ (u : Transfer). IsEntered v bus.log (bus_after bus (Drain why) (p ∷ ps) v).log (enters_log u)) (sym is)
             (entered_by v (store_entry (who_of v) p) bus.log (bus_after bus (Drain why) (p ∷ ps) v).log (enters_log t) refl (drain_entered v bus why p ps x));
+        setup = refl;
+        idle = refl;
       }
-  turn_adds Snoop pending x = record { made = refl; own = refl; step = refl; entry = append-nil bus.log }
+  turn_adds Snoop pending x = record { made = refl; own = refl; step = refl; kind = refl; why = refl; entry = append-nil bus.log; setup = refl; idle = refl }

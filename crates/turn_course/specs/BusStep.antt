@@ -7,7 +7,7 @@ use Rattle.ahb_bus.specs.BusState.{BusState}
 use Rattle.core_course.specs.Calls.{Joins, MayTurn}
 use Rattle.core_parts.specs.CoreValue.{CoreValue}
 use Rattle.core_parts.specs.IsCore.{CanStore, Waits}
-use Rattle.core_parts.specs.Needs.{kind_of}
+use Rattle.core_parts.specs.Needs.{kind_of, why_of}
 use Rattle.core_parts.specs.Work.{waiting_in}
 use Rattle.core_parts.specs.declared.phase.Phase.{Phase}
 use Rattle.core_parts.specs.declared.phase.Phase.TheVariants.{Between, Ended}
@@ -92,9 +92,13 @@ abbrev pub IsEntered : CoreValue → List Entry → List Entry → Bool → Type
 IsEntered v before after true = (e : Entry) × ((e.core ≡ v.arch.core) × (after ≡ before ++ e ∷ []))
 IsEntered v before after false = after ≡ before
 
--- one transfer more, of this core
-pub record AddsTransfer (v : CoreValue) (before after : BusState) (t : Transfer) : Type 0 where
+-- one transfer more, of this core and of the turn's kind and cause; the setup stays, and no turn is begun then
+pub record AddsTransfer (turn : Turn) (v : CoreValue) (before after : BusState) (t : Transfer) : Type 0 where
   pub made : after.transfers ≡ before.transfers ++ t ∷ []
   pub own : t.master ≡ v.arch.core
   pub step : t.step ≡ v.steps
+  pub kind : t.kind ≡ kind_of turn
+  pub why : t.why ≡ why_of turn
   pub entry : IsEntered v before.log after.log (enters_log t)
+  pub setup : after.setup ≡ before.setup
+  pub idle : after.begun ≡ false
