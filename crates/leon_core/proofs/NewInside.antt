@@ -44,13 +44,15 @@ module _ (setup : Setup) (core : ℕ) (p : Parts) (s : StartsAt setup core p) (p
   no_steps : p.«record».steps + 0 ≡ 0
   no_steps = let e : p.«record».steps ≡ 0 = ap (λ (r : RecordState). r.steps) s.made in omega (arith, e)
 
-  pub is_new : AllByRecursion (AimsAt core (reset_arrays setup.config)) setup.flips → setup.config.steps < 4294967296 → IsRunnable setup → IsCore (start_value setup core).arch p → IsKept inside
+  pub is_new : AllByRecursion (AimsAt core (reset_arrays setup.config)) setup.flips → setup.config.steps < 4294967296 → IsRunnable setup → core < setup.config.cores
+      → IsCore (start_value setup core).arch p → IsKept inside
   unfolding reset
-  is_new aims bounded runnable is_core = record {
+  is_new aims bounded runnable number is_core = record {
     window = ap (λ (x : Setup). x.config.window) (sym s.site);
     limit = ap (λ (x : Setup). x.config.steps) (sym s.site);
     flips = ap (λ (x : Setup). length x.flips) (sym s.site);
     setup = subst IsRunnable (sym s.site) runnable;
+    number = subst (λ (x : Setup). core < x.config.cores) (sym s.site) number;
     core = is_core;
     planned = rw (s.made, s.site) planned;
     runs = subst (λ (n : ℕ). CanRun n 0 p) (sym no_steps) (can_start setup core p s aims bounded);
@@ -60,6 +62,7 @@ module _ (setup : Setup) (core : ℕ) (p : Parts) (s : StartsAt setup core p) (p
     quiet_few = omega arith;
     room = reserved;
     names = none;
+    asked = tt;
   }
 
   pub seen_new : core_seen inside ≡ start_value setup core

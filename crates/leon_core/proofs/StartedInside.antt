@@ -43,6 +43,7 @@ module _ (old : Inside) (is : IsKept old) (between : old.phase ≡ Between) wher
       limit = is.limit;
       flips = is.flips;
       setup = is.setup;
+      number = is.number;
       core = core;
       planned = planned;
       runs = runs;
@@ -52,6 +53,7 @@ module _ (old : Inside) (is : IsKept old) (between : old.phase ≡ Between) wher
       quiet_few = is.quiet_few;
       room = is.room;
       names = subst (NamesBy old.room.named.items) between is.names;
+      asked = tt;
     }
 
     pub is_started : (p : Parts) → p ≡ struck → CanRun (old.parts.«record».steps + 1) 0 p → IsCore old.arch p → IsKept (inside p plan)

@@ -1,5 +1,7 @@
-ghost use Rattle.std.specs.Prelude.{◌≡◌, ℕ, ◌+◌, ◌%◌, ◌^◌, ◌<◌, ◌≤◌, length, nat_lt, IfOk};
+ghost use Rattle.std.specs.Prelude.{◌≡◌, ℕ, ◌+◌, ◌%◌, ◌^◌, ◌<◌, ◌≤◌, [], length, nat_lt, IfOk};
 ghost use Rattle.std.specs.List.{AllByRecursion};
+ghost use Rattle.ahb_bus.specs.BusState.{most_transfers};
+ghost use Rattle.core_course.specs.CoreOk.{CoreOk};
 ghost use Rattle.core_parts.specs.CoreValue.{start_value};
 ghost use Rattle.core_parts.specs.Phases.{state_of_core};
 ghost use Rattle.core_parts.specs.Strikes.{AimsAt};
@@ -73,7 +75,7 @@ fn reset_arch(core: u32, entry: u32) -> Arch
 }
 
 /// For contracts alone: a word is below 2^32.
-fn is_word(_word: u32)
+pub(crate) fn is_word(_word: u32)
     ensures { _word < 2 ^ 32 }
 {}
 
@@ -84,7 +86,8 @@ impl Core {
     ///
     /// Memory ran out.
     pub fn new(alloc: Global, number: u32, s: &Setup) -> Result<Core, AllocError>
-        requires number { number < 8 }
+        requires number { number < s.now.config.cores }
+        requires cores { s.now.config.cores ≤ 8 }
         requires fetch_cache { IsCacheShape s.now.config.fetch_cache }
         requires data_cache { IsCacheShape s.now.config.load_cache }
         requires least_depth { 1 ≤ s.now.config.buffer }
@@ -94,8 +97,10 @@ impl Core {
         requires bytes { (a : ℕ) → initial_byte s.now.image a < 2 ^ 8 }
         requires ram { s.now.config.ram % 32 ≡ 0 }
         requires ram_end { ram_first + s.now.config.ram ≤ 2 ^ 32 }
+        requires transfers { most_transfers s.now.config < 2 ^ 32 }
         requires aims { AllByRecursion (AimsAt number (reset_arrays s.now.config)) s.now.flips }
         ensures reset { IfOk result (λ core. core ≡ start_value s.now number) }
+        ensures ok { IfOk result (λ core. CoreOk core [] []) }
     {
         is_word(s.config.steps);
         let parts = Parts::new(alloc, number, s)?;

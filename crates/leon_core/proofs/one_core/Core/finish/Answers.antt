@@ -31,7 +31,7 @@ returns-clause-leaves c =
     c.output.result c.from_vec.result c.parity-parity.result c.from_vec-2.result c.from_vec-3.result c.from_vec-4.result c.from_vec-5.result in
     subst (λ (v : CoreValue). Leaves v kept) c.self.view_is
     (leaves_it (core_seen inside) kept c.end-end.result (ap state_of_core c.self.view_is ∙ c.end-end.ensures.ended)
-    (same_record c.end-end.result inside.arch.n inside.arch.wim inside.arch.ctl.tbr inside.arch.y inside.arch.ctl.pc inside.arch.ctl.npc c.steps-steps.ensures c.psr-psr.ensures c.output.ensures.items
+    (same_record c.end-end.result inside.arch.n inside.arch.wim inside.arch.ctl.tbr inside.arch.y inside.arch.ctl.pc inside.arch.ctl.npc c.steps-steps.ensures.steps c.psr-psr.ensures c.output.ensures.items
     (c.from_vec.ensures.items ∙ registers) c.parity-parity.ensures.counts (c.from_vec-2.ensures.items ∙ c.into_completed-completed.ensures.ops)
     (c.from_vec-3.ensures.items ∙ c.into_completed-completed.ensures.seen_by) c.from_vec-4.ensures.items (c.from_vec-5.ensures.items ∙ fates)))
 
@@ -50,7 +50,7 @@ returns-clause-ok c = λ log ts joins.
     let fits : Fits (result_of v end) = record {
       end = c.end-end.ensures.fits;
       n = words.n;
-      steps = subst (λ (n : ℕ). n < 2 ^ 32) c.steps-steps.ensures words.steps;
+      steps = subst (λ (n : ℕ). n < 2 ^ 32) c.steps-steps.ensures.steps words.steps;
       out = subst (λ (bytes : List ℕ). list_all fits_byte bytes ≡ true) c.output.ensures.items c.output.ensures.fit;
       count = length-map-range_with_len (register_shown v) 0 32;
       regs = subst (λ (values : List (Option ℕ)). list_all value_fits values ≡ true) registers c.put_registers.ensures.fit;
@@ -67,7 +67,7 @@ returns-clause-ok c = λ log ts joins.
     c.output.result c.from_vec.result c.parity-parity.result c.from_vec-2.result c.from_vec-3.result c.from_vec-4.result c.from_vec-5.result in
     subst (λ (w : CoreValue). RecordOk w.setup w.arch.core kept log ts) c.self.view_is
     (leaves_ok v kept end (ap state_of_core c.self.view_is ∙ c.end-end.ensures.ended)
-    (same_record c.end-end.result inside.arch.n inside.arch.wim inside.arch.ctl.tbr inside.arch.y inside.arch.ctl.pc inside.arch.ctl.npc c.steps-steps.ensures c.psr-psr.ensures c.output.ensures.items
+    (same_record c.end-end.result inside.arch.n inside.arch.wim inside.arch.ctl.tbr inside.arch.y inside.arch.ctl.pc inside.arch.ctl.npc c.steps-steps.ensures.steps c.psr-psr.ensures c.output.ensures.items
     (c.from_vec.ensures.items ∙ registers) c.parity-parity.ensures.counts (c.from_vec-2.ensures.items ∙ c.into_completed-completed.ensures.ops)
     (c.from_vec-3.ensures.items ∙ c.into_completed-completed.ensures.seen_by) c.from_vec-4.ensures.items (c.from_vec-5.ensures.items ∙ fates))
     (regular (result_of v end) fits) is.core.ops_fit log ts (subst (λ (w : CoreValue). Joins w log ts) (sym c.self.view_is) joins))
