@@ -1,3 +1,5 @@
 pub mod Filters
 pub mod OwnTransfers
 pub mod CoreSteps
+pub mod NotedWords
+pub mod WalkPlaces

@@ -93,7 +93,7 @@ module _ (core steps : ℕ) where
           let k = rw (own, past) at h in
           let none = none_from_end steps (own_transfers core ts) (ascending steps ts k) in
           rw (own, past, is_past steps t.step past)
-              (put_first t (own_transfers core ts) (in_steps steps (own_transfers core ts)) (past_steps steps (own_transfers core ts)) none (ordered steps ts k))
+          (put_first t (own_transfers core ts) (in_steps steps (own_transfers core ts)) (past_steps steps (own_transfers core ts)) none (ordered steps ts k))
     ]
     | inr other ↦ rw other (ordered first ts (rw other at h))
   ]
@@ -113,7 +113,7 @@ module _ (core steps : ℕ) where
           let h2 = rw (own, past, is_past steps t.step past) at h in
           let none = none_after_past steps t (own_transfers core ts) (t ∷ past_steps steps (own_transfers core ts)) past h2 in
           rw (own, past) (followed steps ts (take_first t (own_transfers core ts) (in_steps steps (own_transfers core ts)) (past_steps steps (own_transfers core ts)) none h2)
-              (subst (λ (xs : List Transfer). ascends_from steps xs ≡ true) (sym none) refl))
+          (subst (λ (xs : List Transfer). ascends_from steps xs ≡ true) (sym none) refl))
     ]
     | inr other ↦ rw other (followed first ts (rw other at h) (rw other at k))
   ]

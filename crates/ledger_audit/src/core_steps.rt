@@ -162,9 +162,8 @@ fn are_last_drains(transfers: &[Transfer], core: u32, steps: u32, limit: u32) ->
 fn makes_last(transfers: &[Transfer], core: u32, steps: u32) -> bool
     ensures { result ≡ list_any (λ t. (t.master == core && nat_lt t.step steps) && is_of_last_step steps t) transfers.now }
 {
-    transfers
-        .iter()
-        .any(|transfer| is_in_steps(transfer, core, steps) && is_of_last_step(transfer, steps))
+    transfers.iter().any(|transfer| is_in_steps(transfer, core, steps)
+        && is_of_last_step(transfer, steps))
 }
 
 /// A transfer does not keep the last step from retiring an instruction: it is of another step, or retires one itself.
@@ -198,7 +197,9 @@ fn retiring_steps(transfers: &[Transfer], core: u32, told: &CoreResult) -> u64
 {
     let made = count_in_steps(transfers, core, told.steps) as u64;
     let stopped = u64::from(stops_in_last(transfers, core, told));
-    let without = u64::from(told.steps).saturating_sub(made).saturating_sub(stopped);
+    let without = u64::from(told.steps)
+        .saturating_sub(made)
+        .saturating_sub(stopped);
     without + count_retiring(transfers, core, told) as u64
 }
 
@@ -231,7 +232,11 @@ fn has_steps(setup: &Setup, told: &CoreResult, core: u32, transfers: &[Transfer]
     let limit = setup.config.steps;
     let ordered = are_in_order(transfers, core, told.steps);
     let drained = are_last_drains(transfers, core, told.steps, limit);
-    let allowed = may_drain(count_past_steps(transfers, core, told.steps), told.steps, limit);
+    let allowed = may_drain(
+        count_past_steps(transfers, core, told.steps),
+        told.steps,
+        limit,
+    );
     let counted = retiring_steps(transfers, core, told) == u64::from(told.n);
     let halted = halts_in_last(transfers, core, told);
     all_hold(ordered, drained, allowed, counted, halted)

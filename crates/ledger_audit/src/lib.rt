@@ -5,5 +5,8 @@
 #![tactic(auto)]
 
 mod core_steps;
+mod syndromes;
+mod walk;
 
 pub use core_steps::steps;
+pub use walk::scrub_walk;

@@ -1,0 +1,14 @@
+-- The first place at which each rule of the ledger fails that a trace alone decides, none where it fails nowhere.
+use Rattle.std.specs.Prelude.{◌≡◌, length, Option}
+use Rattle.lf_model.specs.Bus.Walk.{walk_after, WalkAt}
+use Rattle.lf_model.specs.Ledger.Rule.{TriedBefore, NoneLeft}
+use Rattle.lf_model.specs.declared.place.Place.{Place}
+use Rattle.lf_model.specs.declared.place.Place.TheVariants.{Transfer, Final}
+use Rattle.lf_model.specs.declared.setup.Setup.{Setup}
+use Rattle.lf_model.specs.declared.trace.Trace.{Trace}
+
+-- the walk of the scrubber is tried at each transfer, and last at the number of its turns
+abbrev pub WalkFailsFirst : Setup → Trace → Option Place → Type 0
+WalkFailsFirst setup trace =
+    TriedBefore (length trace.transfers) (WalkAt setup.config.scrub trace.transfers) Transfer
+    (TriedBefore 1 (λ i. (walk_after setup.config.scrub trace.transfers).turns ≡ setup.config.scrub_turns) (λ i. Final) NoneLeft)
