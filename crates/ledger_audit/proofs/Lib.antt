@@ -3,3 +3,5 @@ pub mod OwnTransfers
 pub mod CoreSteps
 pub mod NotedWords
 pub mod WalkPlaces
+pub mod Along
+pub mod SortedSoFar

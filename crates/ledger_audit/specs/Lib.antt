@@ -1,3 +1,4 @@
 pub mod WalkState
 pub mod WalkInside
+pub mod Sorting
 pub mod FirstPlaces

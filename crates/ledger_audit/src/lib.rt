@@ -5,8 +5,10 @@
 #![tactic(auto)]
 
 mod core_steps;
+mod sorted;
 mod syndromes;
 mod walk;
 
 pub use core_steps::steps;
+pub use sorted::order_sorted;
 pub use walk::scrub_walk;
