@@ -5,3 +5,4 @@ pub mod NotedWords
 pub mod WalkPlaces
 pub mod Along
 pub mod SortedSoFar
+pub mod FirstUnclean

@@ -2,3 +2,4 @@ pub mod WalkState
 pub mod WalkInside
 pub mod Sorting
 pub mod FirstPlaces
+pub mod Noting
