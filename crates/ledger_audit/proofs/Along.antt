@@ -1,5 +1,5 @@
 -- An element of the walk along an order: by what comes before it, itself, and what comes later.
-use Rattle.std.proofs.Common.{◌≡◌, ◌∙◌, ℕ, zero, suc, ◌+◌, ◌<◌, List, [], ◌∷◌, length, take, drop, get_or, ap, sym, refl, Option, Some, add-one, arith}
+use Rattle.std.proofs.Common.{◌≡◌, ◌∙◌, ℕ, zero, suc, ◌+◌, ◌<◌, List, [], ◌∷◌, length, take, drop, get_or, ap, sym, refl, Some, add-one, arith}
 use Rattle.std.specs.Prelude.{slice_get, fold}
 use Rattle.std.proofs.lemmas.List.{take_more}
 use Rattle.std.proofs.lemmas.List.Sums.{fold_push}
@@ -25,5 +25,5 @@ module _ (account : Before → Op → List Op → OrderAccount) where
 pub before_more : (order : List Op) (i : ℕ) (d : Op) → i < length order → after_op (before_at order i) (get_or order i d) ≡ before_at order (i + 1)
 before_more order i d low =
     let more : before_at order (i + 1) ≡ after_op (before_at order i) (get_or order i d)
-        = ap (fold after_op before_all) (take_more order i d low) ∙ fold_push after_op before_all (take i order) (get_or order i d) in
+    = ap (fold after_op before_all) (take_more order i d low) ∙ fold_push after_op before_all (take i order) (get_or order i d) in
     sym more

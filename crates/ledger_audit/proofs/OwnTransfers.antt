@@ -1,10 +1,10 @@
 -- The transfers of a core are gone over one after the other: those in its steps, each of a later step than the one before, and then
 -- those after its last step.
-use Rattle.std.proofs.Common.{◌≡◌, ◌∙◌, ◌+◌, ◌==◌, ◌&&◌, ◌++◌, ℕ, Bool, true, false, List, [], ◌∷◌, ◌<◌, ◌≤◌, length, drop, get_or, ap, refl, sym, subst, Option, Some, None, inl, inr, if◌then◌else◌}
-use Rattle.std.specs.Prelude.{nat_lt, nat_le, not}
+use Rattle.std.proofs.Common.{◌≡◌, ◌+◌, ◌==◌, ◌++◌, ℕ, Bool, true, false, List, [], ◌∷◌, ◌<◌, ◌≤◌, length, drop, get_or, ap, refl, sym, subst, Option, Some, None, inl, inr, if◌then◌else◌}
+use Rattle.std.specs.Prelude.{nat_lt, nat_le}
 use Rattle.std.specs.Option.{option_map_or}
 use Rattle.std.proofs.lemmas.List.{drop_more, drop_all}
-use Rattle.std.proofs.lemmas.Bool.{cases_Bool, and_parts, ltb-true, ltb-false, le-leb, lt-leb, leb-true}
+use Rattle.std.proofs.lemmas.Bool.{cases_Bool, and_parts, ltb-true, ltb-false, le-leb, lt-leb}
 use Rattle.lf_model.specs.Ledger.Steps.{own_transfers, in_steps, past_steps, ascends_from}
 use Rattle.lf_model.specs.declared.bus.Transfer.{Transfer}
 

@@ -1,10 +1,10 @@
 -- The last load, and the last lost store, tell how an operation comes after all of them, one operation further.
-use Rattle.std.proofs.Common.{◌≡◌, ◌∙◌, ◌<◌, ◌≤◌, ◌+◌, ◌&&◌, ◌||◌, ◌==◌, ◌⊎◌, ℕ, Bool, true, false, List, [], ◌∷◌, length, drop, get_or, ap, ap₂, sym, subst, refl, inl, inr, Option, Some, None, IfSome, arith}
+use Rattle.std.proofs.Common.{◌≡◌, ◌∙◌, ◌<◌, ◌≤◌, ◌+◌, ◌&&◌, ◌==◌, ◌⊎◌, ℕ, Bool, true, false, List, [], ◌∷◌, length, drop, get_or, sym, subst, refl, inl, inr, Option, Some, None, IfSome, arith}
 use Rattle.std.specs.Prelude.{nat_lt, nat_le}
 use Rattle.std.specs.List.{list_all}
-use Rattle.std.proofs.lemmas.Bool.{cases_Bool, and_parts, ltb-true, ltb-false, leb-true, lt-ltb, le-leb, le-ltb, eqb-true, eq-eqb}
+use Rattle.std.proofs.lemmas.Bool.{cases_Bool, and_parts, ltb-true, leb-true, lt-ltb, le-leb, le-ltb, eqb-true, eq-eqb}
 use Rattle.std.proofs.lemmas.List.{drop_more}
-use Rattle.lf_model.specs.Ledger.OrderAccount.{OrderAccount, Before, after_kind, comes_before, sorted_by, place_as_reported}
+use Rattle.lf_model.specs.Ledger.OrderAccount.{OrderAccount, Before, comes_before, sorted_by, place_as_reported}
 use Rattle.lf_model.specs.Operation.{is_lost}
 use Rattle.lf_model.specs.declared.trace.Op.{Op}
 use Rattle.ledger_audit.specs.declared.sorted.SoFar.{SoFar}
@@ -90,4 +90,3 @@ module _ (order : List Op) (i : ℕ) (d : Op) (within : i < length order) where
 
   pub tells_more : (so_far : SoFar) → SortedWith (before_at order i) (get_or order i d) (drop (i + 1) order) so_far → Tells so_far (before_at order (i + 1))
   tells_more so_far h = subst (Tells so_far) (before_more order i d within) h.tells
-

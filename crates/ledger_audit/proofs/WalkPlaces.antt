@@ -1,10 +1,9 @@
 -- The walk of the scrubber after one more transfer, and the first transfer that is not its next.
-use Rattle.std.proofs.Common.{◌≡◌, ◌∙◌, ℕ, ◌+◌, ◌<◌, List, length, take, get_or, ap, sym, subst, refl, inl, inr, Option, Some, None, IfSome, arith, below_more}
-use Rattle.std.specs.Prelude.{slice_get, fold}
-use Rattle.std.proofs.lemmas.List.{take_more, take_all}
+use Rattle.std.proofs.Common.{◌≡◌, ◌∙◌, ℕ, ◌+◌, ◌<◌, List, length, take, get_or, ap, sym, subst, refl, inl, inr, Option, Some, None, IfSome, arith}
+use Rattle.std.proofs.lemmas.List.{take_more}
 use Rattle.std.proofs.lemmas.List.Sums.{fold_push}
 use Rattle.std.proofs.lemmas.Option.{slice_get-get_or}
-use Rattle.lf_model.specs.Bus.Walk.{Walk, scrubber, walk_start, walk_by, walk_after, WalkAt}
+use Rattle.lf_model.specs.Bus.Walk.{scrubber, walk_start, walk_by, walk_after, WalkAt}
 use Rattle.lf_model.specs.Places.{FailsFirst}
 use Rattle.lf_model.specs.declared.bus.Transfer.{Transfer as Turn}
 use Rattle.lf_model.specs.declared.bus.TurnKind.TheVariants.{Fetch}

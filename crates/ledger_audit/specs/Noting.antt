@@ -1,5 +1,5 @@
 -- What AHBSTAT takes of a transfer, and what a trace reports of it.
-use Rattle.std.specs.Prelude.{ℕ, ◌+◌, ◌<◌, ◌≤◌, ◌^◌}
+use Rattle.std.specs.Prelude.{◌+◌, ◌<◌, ◌≤◌, ◌^◌}
 use Rattle.lf_model.specs.Bus.Status.{AhbStatus}
 use Rattle.lf_model.specs.declared.bus.Transfer.{Transfer}
 use Rattle.lf_model.specs.declared.trace.Trace.{Trace}

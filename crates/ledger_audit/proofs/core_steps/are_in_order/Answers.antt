@@ -1,5 +1,5 @@
-use Rattle.std.proofs.Common.{◌≡◌, ◌∙◌, length, true, sym, arith}
-use Rattle.ledger_audit.proofs.OwnTransfers.{follows_from, ordered, ascending, followed, is_stopped, at_end}
+use Rattle.std.proofs.Common.{◌∙◌, sym, arith}
+use Rattle.ledger_audit.proofs.OwnTransfers.{ordered, ascending, followed, is_stopped, at_end}
 use Rattle.ledger_audit.proofs.core_steps.are_in_order.Goals as goal
 
 pub returns-in-None-clause-found : goal.returns-in-None-clause-found

@@ -1,4 +1,4 @@
-use Rattle.std.proofs.Common.{◌≡◌, ◌∙◌, ◌==◌, ◌&&◌, ◌||◌, ℕ, ap, ap₂, sym}
+use Rattle.std.proofs.Common.{◌∙◌, ◌==◌, ◌&&◌, ◌||◌, ℕ, ap, ap₂, sym}
 use Rattle.std.specs.Prelude.{nat_le}
 use Rattle.ledger_audit.proofs.CoreSteps.{all_pass, passes_all}
 use Rattle.ledger_audit.proofs.core_steps.has_steps.Goals as goal

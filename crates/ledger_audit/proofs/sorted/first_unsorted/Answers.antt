@@ -1,4 +1,4 @@
-use Rattle.std.proofs.Common.{◌≡◌, ◌<◌, ◌+◌, ℕ, drop, get_or, IfSome, subst, sym, arith, below_more}
+use Rattle.std.proofs.Common.{◌+◌, ℕ, drop, get_or, IfSome, subst, below_more}
 use Rattle.ledger_audit.proofs.Along.{before_at}
 use Rattle.ledger_audit.proofs.SortedSoFar.{later_lost, sorted_at, unsorted_at, tells_more}
 use Rattle.ledger_audit.specs.FirstPlaces.{SortedAt}
@@ -14,7 +14,7 @@ loop-place-preserved c =
     let i = c.loop-place.place in
     let so_far = c.loop-place.invariant in
     let sorted : SortedWith (before_at order i) (get_or order i no_op) (drop (i + 1) order) c.in-Some.next
-        = subst (λ r. IfSome r (SortedWith (before_at order i) (get_or order i no_op) (drop (i + 1) order))) c.in-Some.is (c.next.ensures.sorted (before_at order i) so_far.tells) in
+    = subst (λ r. IfSome r (SortedWith (before_at order i) (get_or order i no_op) (drop (i + 1) order))) c.in-Some.is (c.next.ensures.sorted (before_at order i) so_far.tells) in
     record {
       tells = tells_more order i no_op c.loop-place-test.true c.in-Some.next sorted;
       ends = sorted.ends;
@@ -25,8 +25,7 @@ pub returns-in-None : goal.returns-in-None
 returns-in-None c =
     let order = c.args.order.now in
     let i = c.loop-place.place in
-    let so_far = c.loop-place.invariant in
-    (
+    let so_far = c.loop-place.invariant in (
       c.loop-place-test.true,
       unsorted_at order i no_op c.loop-place-test.true (c.next.ensures.unsorted (before_at order i) so_far.tells c.in-None.is),
       so_far.held,

@@ -1,4 +1,4 @@
-use Rattle.std.proofs.Common.{◌≡◌, ◌∙◌, ◌+◌, ◌<◌, ℕ, List, get_or, ap, subst, arith, below_more}
+use Rattle.std.proofs.Common.{◌≡◌, ◌∙◌, ℕ, List, get_or, ap, subst, arith, below_more}
 use Rattle.std.proofs.lemmas.List.{take_all}
 use Rattle.lf_model.specs.Bus.Walk.{Walk, walk_by, walk_after, WalkAt}
 use Rattle.lf_model.specs.declared.bus.Transfer.{Transfer}
