@@ -6,3 +6,4 @@ pub mod WalkPlaces
 pub mod Along
 pub mod SortedSoFar
 pub mod FirstUnclean
+pub mod EntryPlaces

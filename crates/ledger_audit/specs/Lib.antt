@@ -3,3 +3,4 @@ pub mod WalkInside
 pub mod Sorting
 pub mod FirstPlaces
 pub mod Noting
+pub mod Entries

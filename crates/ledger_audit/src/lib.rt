@@ -14,16 +14,18 @@
 //!
 //! | call | rule |
 //! |---|---|
+//! | `order_entries` | the stores and atomics of the order are the entries of the log, in its order |
 //! | `transfers_as_made` | each transfer is reported as it was made |
 //! | `flip_fates` | of each flip is reported what became of it |
 //! | `ahb_status` | AHBSTAT is as the transfers leave it |
 //!
-//! The run itself, the accounts of the cores, the entries and completions of the order, what each step needs and the watched words are not
+//! The run itself, the accounts of the cores, the completions of the order, what each step needs and the watched words are not
 //! here yet, nor the call that tries all rules in their order.
 #![tactic(auto)]
 
 mod ahb;
 mod core_steps;
+mod entries;
 mod given;
 mod sorted;
 mod syndromes;
@@ -31,6 +33,7 @@ mod walk;
 
 pub use ahb::ahb_status;
 pub use core_steps::steps;
+pub use entries::{LogEntry, order_entries};
 pub use given::{flip_fates, transfers_as_made};
 pub use sorted::order_sorted;
 pub use walk::scrub_walk;
