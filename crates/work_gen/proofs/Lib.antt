@@ -1,0 +1,3 @@
+pub mod OneWord
+pub mod Bytes
+pub mod Fetched

@@ -1,0 +1,13 @@
+//! Generated programs: from two numbers an image whose code is straight, with loads, stores and atomics at pseudo-random places of its
+//! data, and a script of pseudo-random flips for a run of it. The same numbers always give the same image and the same script.
+//!
+//! `specs/Draws.antt` has the pseudo-random sequence, `specs/Program.antt` the instruction that each draw makes, `specs/Encoding.antt`
+//! the words, and `specs/Layout.antt` the image.
+#![tactic(auto)]
+
+mod code;
+mod draws;
+mod image;
+mod program;
+
+pub use image::make;
