@@ -1,3 +1,4 @@
 pub mod OneWord
 pub mod Bytes
 pub mod Fetched
+pub mod Flips

@@ -30,6 +30,14 @@ fn data_address(size: u32) -> u32
     RAM_FIRST + pages * DATA_ALIGNMENT
 }
 
+/// The first address behind the data.
+pub fn data_end(size: u32) -> u32
+    requires { size ≤ 100000 }
+    ensures { result ≡ data_end size }
+{
+    data_address(size) + DATA_LENGTH
+}
+
 /// The segments of a program with this code.
 fn segments_of(alloc: Global, code: Vec<u8>, size: u32) -> Result<Segments, AllocError>
     requires { size ≤ 100000 }
