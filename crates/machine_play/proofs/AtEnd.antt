@@ -1,4 +1,5 @@
 -- Beside the trace that is gathered from an ended machine, each core has gone on to all that it made.
+use Rattle.leon_core.specs.Moves.{store_steps}
 use Rattle.std.proofs.Common.{◌≡◌, ◌∙◌, ◌+◌, ℕ, List, [], ◌∷◌, length, map, sum, sum_by, refl, ap, sym, arith}
 use Rattle.std.proofs.lemmas.List.{append-nil}
 use Rattle.std.proofs.lemmas.List.Sums.{sum-map, sum_by-append}
@@ -12,7 +13,7 @@ use Rattle.lf_model.specs.declared.trace.CoreResult.{CoreResult}
 use Rattle.lf_model.specs.declared.trace.Trace.{Trace}
 use Rattle.machine_play.specs.CoreMade.{GoesOnTo, GoOnTo}
 use Rattle.machine_play.specs.LeftOver.{left_in_all}
-use Rattle.machine_play.specs.MachineMade.{store_steps, core_made}
+use Rattle.machine_play.specs.MachineMade.{core_made}
 use Rattle.machine_play.proofs.OwnShares.{own_of}
 
 -- the trace shows core c as it is: its number, its steps and its operations

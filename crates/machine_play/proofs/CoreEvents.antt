@@ -1,4 +1,5 @@
 -- What an event makes of a core, as the schedule's definitions have it: where it makes a step, a turn or a drain, and where it is passed over.
+use Rattle.leon_core.specs.Moves.{StoresIn}
 use Rattle.std.proofs.Common.{◌≡◌, ◌∙◌, ◌+◌, ◌<◌, ◌≤◌, ℕ, zero, suc, Bool, true, false, cond, nat_lt, List, [], ◌∷◌, ◌++◌, None, length, drop, count_by, refl, ap, ap₂, sym, arith, append_assoc, inl, inr}
 use Rattle.std.proofs.lemmas.Bool.{lt-ltb, ltb-true, ne_eqb, eq-eqb, cases_Bool}
 use Rattle.std.proofs.lemmas.List.{drop_at}
@@ -8,7 +9,7 @@ use Rattle.core_laws.proofs.ListLemmas.{count_append}
 use Rattle.lf_model.proofs.EachLemmas.{each_append, each_weaker}
 use Rattle.lf_model.specs.Promise.Turns.{CoreLeft, Moved, turn_by, has_ended, turns_in, waits, core_moved, drain_moved}
 use Rattle.lf_model.specs.declared.bus.Transfer.{Transfer}
-use Rattle.machine_play.specs.CoreMade.{CoreMade, is_drain, IsMade, GoesOnTo, left_of, StoresIn, StepsAlone, StepsWithTurn, DrainsLast}
+use Rattle.machine_play.specs.CoreMade.{CoreMade, is_drain, IsMade, GoesOnTo, left_of, StepsAlone, StepsWithTurn, DrainsLast}
 
 -- ---- by the numbers
 

@@ -1,4 +1,5 @@
 -- Each core of the machine has made what a schedule's definitions count: the stores that wait are those that retired and did not drain.
+use Rattle.leon_core.specs.Moves.{store_steps}
 use Rattle.std.proofs.Common.{◌≡◌, ◌∙◌, ◌+◌, ◌<◌, ℕ, true, false, List, Option, Some, None, IfSome, count_by, length, map, filter, take, drop, slice_get, refl, ap, sym, arith}
 use Rattle.std.proofs.lemmas.List.{length-map, take-append-drop}
 use Rattle.std.specs.List.{AllByRecursion as Each}
@@ -21,7 +22,7 @@ use Rattle.lf_model.specs.declared.bus.Transfer.{Transfer}
 use Rattle.lf_model.specs.declared.setup.Setup.{Setup}
 use Rattle.machine_play.specs.CoreMade.{is_drain, IsMade}
 use Rattle.machine_play.specs.Machine.{IsCoreAt, IsMachine}
-use Rattle.machine_play.specs.MachineMade.{is_running, is_ended, store_steps, core_made, reported, IsCoreMade, AreMade}
+use Rattle.machine_play.specs.MachineMade.{is_running, is_ended, core_made, reported, IsCoreMade, AreMade}
 use Rattle.machine_play.specs.MachineValue.{MachineValue}
 use Rattle.machine_play.proofs.DrainsCounted.{drains_counted, drains_reported}
 

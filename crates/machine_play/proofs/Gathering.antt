@@ -14,15 +14,13 @@ use Rattle.lf_model.specs.declared.bus.Transfer.{Transfer}
 use Rattle.lf_model.specs.declared.record.CoreRecord.{CoreRecord}
 use Rattle.lf_model.specs.declared.setup.Setup.{Setup}
 use Rattle.lf_model.specs.declared.trace.Word2.{Word2}
+use Rattle.machine_play.specs.Ending.{named_of}
 use Rattle.machine_play.specs.LeavesRecords.{LeaveRecords}
 use Rattle.machine_play.specs.Machine.{IsMachine}
 use Rattle.machine_play.specs.MachineValue.{MachineValue}
 use Rattle.machine_play.proofs.OwnShares.{walk_turns}
 
 -- ---- of the cores
-
-abbrev pub named_of : CoreRecord → List Word2
-named_of kept = kept.named
 
 -- the words that the bus was given are those that all records name
 names_are : (records : List CoreRecord) → names_of (map named_of records) ≡ words_named_by_all records

@@ -8,7 +8,6 @@ pub mod OwnShares
 pub mod AtEnd
 pub mod ScheduleFollows
 pub mod DrainsCounted
-pub mod StoresKept
 pub mod NeedsUnscheduled
 pub mod Joining
 pub mod MachineKeeps
@@ -16,3 +15,14 @@ pub mod CoresMade
 pub mod Gathering
 pub mod TraceFollows
 pub mod MachineStarts
+pub mod OneCoreMoves
+pub mod LeftInMachine
+pub mod MachineMoves
+pub mod EventRuns
+pub mod ScrubMoves
+pub mod Leaving
+pub mod Starting
+pub mod Played
+pub mod AllOver
+pub mod Watching
+pub mod Traced

@@ -1,4 +1,5 @@
 -- What the machine makes at an event is what the definitions of a schedule make of all actors.
+use Rattle.leon_core.specs.Moves.{StoresIn, store_steps}
 use Rattle.std.proofs.Common.{◌≡◌, ◌≢◌, ◌∙◌, ◌+◌, ◌-◌, ◌<◌, ◌==◌, ℕ, zero, suc, Bool, true, false, List, [], ◌∷◌, ◌++◌, Option, Some, None, IfSome, length, map, slice_get, slice_set, refl, ap, sym, subst, arith}
 use Rattle.std.proofs.lemmas.Bool.{ne_eqb, eq-eqb}
 use Rattle.std.proofs.lemmas.List.{map-append, append-nil, map-set}
@@ -19,8 +20,8 @@ use Rattle.lf_model.specs.declared.bus.Why.TheVariants.{Sched}
 use Rattle.lf_model.specs.declared.setup.Actor.{Actor}
 use Rattle.lf_model.specs.declared.setup.Actor.TheVariants.{Core, Drain}
 use Rattle.lf_model.specs.declared.setup.Setup.{Setup}
-use Rattle.machine_play.specs.CoreMade.{CoreMade, IsMade, GoesOnTo, left_of, GoOnTo, left_of_each, StoresIn, StepsAlone, StepsWithTurn, DrainsLast}
-use Rattle.machine_play.specs.MachineMade.{is_running, is_ended, store_steps, core_made, reported, made_of, actors_of, IsCoreMade, AreMade, ComesTo}
+use Rattle.machine_play.specs.CoreMade.{CoreMade, IsMade, GoesOnTo, left_of, GoOnTo, left_of_each, StepsAlone, StepsWithTurn, DrainsLast}
+use Rattle.machine_play.specs.MachineMade.{is_running, is_ended, core_made, reported, made_of, actors_of, IsCoreMade, AreMade, ComesTo}
 use Rattle.machine_play.specs.MachineValue.{MachineValue, with_core, with_core_turn}
 use Rattle.machine_play.proofs.AllEvents.{moved_at, passed_at, none_at}
 use Rattle.machine_play.proofs.CoreEvents.{alone_back, alone_moved, turn_back, turn_moved, drain_moved_in_step, drain_back, last_moved, drain_moved_last, ended_passed, ended_drain_passed, drain_passed}
@@ -220,4 +221,9 @@ module _ (setup : Setup) (events : Actors → Actors) (m : MachineValue) (are : 
 pub none_there_comes : (setup : Setup) (events : Actors → Actors) (m : MachineValue) → ComesTo setup events m → (n : ℕ) → slice_get m.cores n ≡ None → ComesTo setup (λ a. event_made n (events a) Core) m
 none_there_comes setup events m comes n none = event_comes setup events m comes Core n m
     (λ alls goes. let moved = none_at (core_moved n) n alls (made_of m) (slice_get-map (core_made (reported m.bus)) m.cores n ∙ ap (option_map (core_made (reported m.bus))) none) goes in
+    (goes, moved.is (setup.config.scrub_turns - m.walk.walk.turns) (map turn_of_transfer (reported m.bus))))
+
+pub none_there_drain_comes : (setup : Setup) (events : Actors → Actors) (m : MachineValue) → ComesTo setup events m → (n : ℕ) → slice_get m.cores n ≡ None → ComesTo setup (λ a. event_made n (events a) Drain) m
+none_there_drain_comes setup events m comes n none = event_comes setup events m comes Drain n m
+    (λ alls goes. let moved = none_at (drain_moved n) n alls (made_of m) (slice_get-map (core_made (reported m.bus)) m.cores n ∙ ap (option_map (core_made (reported m.bus))) none) goes in
     (goes, moved.is (setup.config.scrub_turns - m.walk.walk.turns) (map turn_of_transfer (reported m.bus))))

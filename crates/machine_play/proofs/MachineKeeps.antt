@@ -1,4 +1,5 @@
 -- What holds of the machine between two events holds after the next: a step of a core without a turn, a turn of a core, and one of the scrubber.
+use Rattle.leon_core.specs.Moves.{StoresIn, store_steps}
 use Rattle.std.proofs.Common.{◌≡◌, ◌≢◌, ◌∙◌, ◌+◌, ◌<◌, ◌≤◌, ◌==◌, ◌++◌, ℕ, zero, suc, true, false, List, [], ◌∷◌, Option, Some, None, IfSome, length, slice_get, slice_set, refl, ap, sym, subst, arith, inl, inr}
 use Rattle.std.proofs.lemmas.Bool.{cases_eq, ne_eqb, and_parts}
 use Rattle.std.proofs.lemmas.List.Folds.{list_all-append}
@@ -20,9 +21,7 @@ use Rattle.lf_model.specs.declared.bus.Transfer.{Transfer}
 use Rattle.lf_model.specs.declared.config.Config.{Config}
 use Rattle.lf_model.specs.declared.setup.Setup.{Setup}
 use Rattle.machine_play.specs.BusTurn.{IsTurnOf}
-use Rattle.machine_play.specs.CoreMade.{StoresIn}
 use Rattle.machine_play.specs.Machine.{IsAtRest, IsCoreAt, IsMachine}
-use Rattle.machine_play.specs.MachineMade.{store_steps}
 use Rattle.machine_play.specs.MachineValue.{MachineValue, with_core, with_core_turn, with_scrub_turn}
 use Rattle.machine_play.proofs.Joining.{joins_whole, joins_later, joins_kept}
 use Rattle.scrubber.proofs.WholeWalk.{IsNext, IsWalk, walk_goes_on, next_made, others_next}

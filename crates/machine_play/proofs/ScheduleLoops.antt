@@ -60,7 +60,7 @@ all_length (all ∷ alls) [] goes = absurd goes
 all_length (all ∷ alls) (c ∷ cs) goes = ap suc (all_length alls cs goes.1)
 
 -- one number more
-range_more : (first n : ℕ) → range_with_len first (suc n) ≡ range_with_len first n ++ (first + n) ∷ []
+pub range_more : (first n : ℕ) → range_with_len first (suc n) ≡ range_with_len first n ++ (first + n) ∷ []
 range_more first zero = let same : first ≡ first + 0 = omega arith in ap (λ (k : ℕ). k ∷ []) same
 range_more first (suc n) = ap (λ ks. first ∷ ks) (range_more (first + 1) n ∙ ap (λ (k : ℕ). range_with_len (first + 1) n ++ k ∷ []) (omega_same first n))
   where

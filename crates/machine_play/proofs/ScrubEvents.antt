@@ -1,4 +1,5 @@
 -- The scrubber's turn, as the definitions of a schedule make it of all actors; and the machine before its first event.
+use Rattle.leon_core.specs.Moves.{store_steps}
 use Rattle.std.proofs.Common.{◌≡◌, ◌≢◌, ◌∙◌, ◌+◌, ◌-◌, ◌<◌, ◌≤◌, ℕ, suc, true, false, nat_lt, List, [], ◌∷◌, ◌++◌, Option, Some, None, IfSome, length, map, slice_get, refl, ap, sym, subst, arith}
 use Rattle.std.proofs.lemmas.Bool.{lt-ltb}
 use Rattle.std.proofs.lemmas.Option.{slice_get_within}
@@ -16,7 +17,7 @@ use Rattle.lf_model.specs.declared.bus.Why.TheVariants.{Sched}
 use Rattle.lf_model.specs.declared.setup.Actor.TheVariants.{Scrub}
 use Rattle.lf_model.specs.declared.setup.Setup.{Setup}
 use Rattle.machine_play.specs.CoreMade.{CoreMade, left_of, GoOnTo, left_of_each}
-use Rattle.machine_play.specs.MachineMade.{is_running, is_ended, store_steps, core_made, reported, made_of, actors_of, IsCoreMade, AreMade, ComesTo}
+use Rattle.machine_play.specs.MachineMade.{is_running, is_ended, core_made, reported, made_of, actors_of, IsCoreMade, AreMade, ComesTo}
 use Rattle.machine_play.specs.MachineValue.{MachineValue, with_scrub_turn}
 use Rattle.machine_play.proofs.CoreEvents.{left_at_start, not_less}
 use Rattle.machine_play.proofs.MachineEvents.{other_after, reported_more, turns_more}

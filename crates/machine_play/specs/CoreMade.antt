@@ -1,6 +1,7 @@
 -- What a core has made so far, as a schedule sees it, and what is left then of all that it makes up to its end.
 use Rattle.std.specs.Prelude.{ℕ, ◌≡◌, ◌+◌, ◌<◌, ◌≤◌, Bool, true, false, List, [], ◌∷◌, ◌++◌, length, count_by, drop}
 use Rattle.std.specs.List.{AllByRecursion}
+use Rattle.leon_core.specs.Moves.{StoresIn}
 use Rattle.lf_model.specs.Names.{same_kind}
 use Rattle.lf_model.specs.Promise.Turns.{CoreLeft}
 use Rattle.lf_model.specs.declared.bus.Transfer.{Transfer}
@@ -61,12 +62,6 @@ left_of_each (all ∷ rest) [] = []
 left_of_each (all ∷ rest) (c ∷ cs) = left_of all c ∷ left_of_each rest cs
 
 -- ---- what a core makes at an event
-
--- the stores that retire in this step
-pub record StoresIn (step : ℕ) (old new : List ℕ) : Type 0 where
-  pub now : List ℕ
-  pub stores : new ≡ old ++ now
-  pub in_step : AllByRecursion (λ s. s ≡ step) now
 
 -- a step without a turn
 pub record StepsAlone (c d : CoreMade) : Type 0 where

@@ -6,3 +6,8 @@ pub mod BusTurn
 pub mod Machine
 pub mod AtStart
 pub mod LeavesRecords
+pub mod Playable
+pub mod Moved
+pub mod Ending
+pub mod MachineInside
+pub mod OneCore

@@ -1,4 +1,5 @@
 -- What holds of the machine between two events.
+use Rattle.leon_core.specs.Moves.{store_steps}
 use Rattle.std.specs.Prelude.{ℕ, ◌≡◌, ◌<◌, false, List, length, IfSome, slice_get}
 use Rattle.std.specs.List.{AllByRecursion}
 use Rattle.ahb_bus.specs.BusOk.{BusOk}
@@ -10,7 +11,6 @@ use Rattle.core_parts.specs.declared.phase.Phase.TheVariants.{Between, Begun, Ne
 use Rattle.lf_model.specs.Bus.Walk.{walk_after, WalkAt}
 use Rattle.lf_model.specs.declared.bus.Transfer.{Transfer}
 use Rattle.lf_model.specs.declared.setup.Setup.{Setup}
-use Rattle.machine_play.specs.MachineMade.{store_steps}
 use Rattle.machine_play.specs.MachineValue.{MachineValue}
 use Rattle.scrubber.specs.WalkState.{WalkState}
 

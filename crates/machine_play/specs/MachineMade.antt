@@ -1,18 +1,16 @@
 -- What the machine has made so far, as the definitions of a schedule see it.
-use Rattle.std.specs.Prelude.{ℕ, ◌≡◌, ◌-◌, ◌≤◌, Bool, true, false, List, [], length, map, filter, IfSome, slice_get}
+use Rattle.std.specs.Prelude.{ℕ, ◌≡◌, ◌-◌, ◌≤◌, Bool, true, false, List, [], length, map, IfSome, slice_get}
 use Rattle.ahb_bus.specs.BusState.{BusState}
 use Rattle.core_parts.specs.CoreValue.{CoreValue}
 use Rattle.core_parts.specs.Phases.{state_of_core}
 use Rattle.core_parts.specs.declared.phase.CoreState.{CoreState}
 use Rattle.core_parts.specs.declared.phase.CoreState.TheVariants.{Running, Draining, Ended}
-use Rattle.lf_model.specs.Course.Core.{is_store}
+use Rattle.leon_core.specs.Moves.{store_steps}
 use Rattle.lf_model.specs.Ledger.Account.{without_length}
 use Rattle.lf_model.specs.Ledger.Steps.{own_transfers}
-use Rattle.lf_model.specs.Promise.Follows.{step_of}
 use Rattle.lf_model.specs.Promise.Turns.{CoreLeft, Actors, turn_of_transfer}
 use Rattle.lf_model.specs.declared.bus.Transfer.{Transfer}
 use Rattle.lf_model.specs.declared.setup.Setup.{Setup}
-use Rattle.lf_model.specs.declared.trace.Op.{Op}
 use Rattle.machine_play.specs.CoreMade.{CoreMade, IsMade, GoOnTo, left_of_each}
 use Rattle.machine_play.specs.MachineValue.{MachineValue}
 
@@ -27,10 +25,6 @@ abbrev pub is_ended : CoreState → Bool
 is_ended Running = false
 is_ended Draining = false
 is_ended (Ended end) = true
-
--- the steps in which the stores among these operations retired, those that are lost now too
-abbrev pub store_steps : List Op → List ℕ
-store_steps ops = map step_of (filter is_store ops)
 
 -- with these transfers on the bus
 abbrev pub core_made : List Transfer → CoreValue → CoreMade
