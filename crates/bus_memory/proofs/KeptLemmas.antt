@@ -16,7 +16,7 @@ use Rattle.lf_model.specs.Caches.Slot.{history_at}
 use Rattle.lf_model.specs.Flips.{Moment}
 use Rattle.lf_model.specs.Records.BusMemory.{with_answer}
 use Rattle.lf_model.specs.Start.{ram_first}
-use Rattle.lf_model.specs.Strikes.{numbered_flips}
+use Rattle.lf_model.specs.NumberedFlips.{numbered_flips}
 use Rattle.lf_model.specs.declared.bus.Transfer.{Transfer}
 use Rattle.lf_model.specs.declared.flip.Flip.{Flip}
 use Rattle.lf_model.specs.declared.flip.Flip.TheVariants.{Mem, Reg, Tag, Line}

@@ -8,7 +8,7 @@ use Rattle.lf_model.specs.Flips.{How, Moment, Standing, standing, struck, turned
 use Rattle.lf_model.specs.Flips.How.{Whole, ByPartStore, ByAtomic, ByFix}
 use Rattle.lf_model.specs.Flips.Moment.{Struck, Written, Found, Named}
 use Rattle.lf_model.specs.Records.BusMemory.{names_word, with_names}
-use Rattle.lf_model.specs.Strikes.{numbered_flips}
+use Rattle.lf_model.specs.NumberedFlips.{numbered_flips}
 use Rattle.lf_model.specs.declared.bus.Transfer.{Transfer}
 use Rattle.lf_model.specs.declared.bus.TurnKind.{TurnKind}
 use Rattle.lf_model.specs.declared.bus.TurnKind.TheVariants.{Fetch, Load, Store, Atomic, Snoop, Look, Fix}

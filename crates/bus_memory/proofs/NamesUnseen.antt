@@ -9,7 +9,7 @@ use Rattle.lf_model.specs.Course.Syndromes.{has_address, packed}
 use Rattle.lf_model.specs.Flips.{How, Moment, Standing, standing, struck, turned, word_bits, word_budget, syndrome}
 use Rattle.lf_model.specs.Flips.Moment.{Struck, Written, Found, Named}
 use Rattle.lf_model.specs.Records.BusMemory.{Memory, words_asked, with_answer, names_word, with_names, memory_start, memory_turn, memory_after}
-use Rattle.lf_model.specs.Strikes.{numbered_flips}
+use Rattle.lf_model.specs.NumberedFlips.{numbered_flips}
 use Rattle.lf_model.specs.declared.bus.Transfer.{Transfer}
 use Rattle.lf_model.specs.declared.flip.Flip.{Flip}
 use Rattle.lf_model.specs.declared.flip.Flip.TheVariants.{Mem, Reg, Tag, Line}

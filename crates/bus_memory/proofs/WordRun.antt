@@ -4,7 +4,7 @@ use Rattle.std.specs.Prelude.{fold}
 use Rattle.std.proofs.lemmas.Simd.{map-map}
 use Rattle.lf_model.specs.Bus.Words.{Word, words_struck, struck_word, strike_word, words_begun, words_after}
 use Rattle.lf_model.specs.Records.BusMemory.{Memory, memory_start, with_names, memory_turn, memory_after}
-use Rattle.lf_model.specs.Strikes.{numbered_flips}
+use Rattle.lf_model.specs.NumberedFlips.{numbered_flips}
 use Rattle.lf_model.specs.declared.bus.Transfer.{Transfer}
 use Rattle.lf_model.specs.declared.flip.Flip.{Flip}
 use Rattle.lf_model.specs.declared.flip.Flip.TheVariants.{Mem, Reg, Tag, Line}

@@ -11,7 +11,7 @@ use Rattle.lf_model.proofs.CourseLemmas.{local_step_counts}
 use Rattle.lf_model.specs.Course.Core.{Ground}
 use Rattle.lf_model.specs.Course.LocalStep.{local_step}
 use Rattle.lf_model.specs.Course.Progress.{Progress}
-use Rattle.lf_model.specs.Execution.{answers_of}
+use Rattle.lf_model.specs.ProgramOrder.{answers_of}
 use Rattle.lf_model.specs.Operation.{kind_reads, kind_made, entry_reads, made}
 use Rattle.lf_model.specs.Run.{Run, reads_of}
 use Rattle.lf_model.specs.declared.bus.Entry.{Entry}

@@ -6,7 +6,7 @@ use Rattle.core_laws.proofs.LostKinds.{lost_reads, lost_stays_store, lost_kind_m
 use Rattle.core_laws.specs.Running.{with_later}
 use Rattle.core_laws.specs.SeenSoFar.{lost_from, losing}
 use Rattle.lf_model.specs.Course.Core.{Given, is_store, given_by}
-use Rattle.lf_model.specs.Execution.{got_of, answers_of}
+use Rattle.lf_model.specs.ProgramOrder.{got_of, answers_of}
 use Rattle.lf_model.specs.Operation.{kind_reads, reads, made}
 use Rattle.lf_model.specs.declared.bus.Entry.{Entry}
 use Rattle.lf_model.specs.declared.trace.Op.{Op}

@@ -9,7 +9,7 @@ use Rattle.lf_model.specs.Course.Core.{Ground}
 use Rattle.lf_model.specs.Course.LocalStep.{is_last_stop, local_step}
 use Rattle.lf_model.specs.Course.Progress.{Progress, start}
 use Rattle.lf_model.specs.Course.Turned.{retires_by, own_turn}
-use Rattle.lf_model.specs.Execution.{answers_of}
+use Rattle.lf_model.specs.ProgramOrder.{answers_of}
 use Rattle.lf_model.specs.Operation.{made}
 use Rattle.lf_model.specs.Records.CoreRules.{EndedCore, HasThread, ShowsState, ShowsResult, ground_of_ended}
 use Rattle.lf_model.specs.Run.{Run, reads_of, answer_to, effect_at_pc, answered, onward, run}

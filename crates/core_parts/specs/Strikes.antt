@@ -14,7 +14,7 @@ use Rattle.lf_model.specs.Course.Arrays.{Arrays as CourseArrays}
 use Rattle.lf_model.specs.Course.Core.{strikes_core}
 use Rattle.lf_model.specs.Flips.{Moment, word_bits}
 use Rattle.lf_model.specs.Ledger.FlipFate.{cache_in}
-use Rattle.lf_model.specs.Strikes.{numbered_flips}
+use Rattle.lf_model.specs.NumberedFlips.{numbered_flips}
 use Rattle.lf_model.specs.declared.flip.Flip.{Flip}
 use Rattle.parity_cache.specs.CacheState.{CacheState}
 use Rattle.parity_cache.specs.CacheState.{with_cache as keeping_lines}

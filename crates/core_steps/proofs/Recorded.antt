@@ -22,7 +22,7 @@ use Rattle.lf_model.specs.Course.Outcome.Need.{NoTurn, Turn, RegisterStop}
 use Rattle.lf_model.specs.Course.Outcome.Outcome.{NotTried, NoText, FetchMiss, BadRegister, OrdinaryTrap, LoadMiss, LoadHit, Store, Atomic, Barrier, Other}
 use Rattle.lf_model.specs.Course.Progress.{completed, stores_made}
 use Rattle.lf_model.specs.Effect.{AccessKind, Access, Effect}
-use Rattle.lf_model.specs.Execution.{answers_of}
+use Rattle.lf_model.specs.ProgramOrder.{answers_of}
 use Rattle.lf_model.specs.Operation.{entry_reads, reads, made}
 use Rattle.lf_model.specs.Run.{reads_of, answer_to}
 use Rattle.lf_model.specs.Step.{looked}

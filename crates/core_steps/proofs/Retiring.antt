@@ -23,7 +23,7 @@ use Rattle.lf_model.specs.Course.Outcome.Need.{NoTurn, Turn, RegisterStop}
 use Rattle.lf_model.specs.Course.Progress.{Progress, next_needs, stores_made}
 use Rattle.lf_model.specs.Course.Touches.{touched, retire_touches}
 use Rattle.lf_model.specs.Effect.{Access, operation_kind, Effect}
-use Rattle.lf_model.specs.Execution.{answers_of}
+use Rattle.lf_model.specs.ProgramOrder.{answers_of}
 use Rattle.lf_model.specs.Flips.{Moment}
 use Rattle.lf_model.specs.Records.OwnTurns.{next_effect}
 use Rattle.lf_model.specs.Run.{Run, performed, answer_to, answered}

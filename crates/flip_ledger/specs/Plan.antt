@@ -1,7 +1,7 @@
 -- The flips of a script that strike the units of one owner: a core, or memory.
 use Rattle.std.specs.Prelude.{◌≡◌, ℕ, ◌<◌, ◌≤◌, ◌==◌, Bool, true, false, List, ◌∷◌, map, filter, All, Option, Some, None}
 use Rattle.lf_model.specs.Course.Core.{strikes_core}
-use Rattle.lf_model.specs.Strikes.{numbered_flips}
+use Rattle.lf_model.specs.NumberedFlips.{numbered_flips}
 use Rattle.lf_model.specs.declared.flip.Flip.{Flip}
 use Rattle.lf_model.specs.declared.flip.Flip.TheVariants.{Mem, Reg, Tag, Line}
 use Rattle.flip_ledger.specs.declared.plan.Owner.{Owner}

@@ -1,5 +1,5 @@
 -- A cell follows the history of its unit.
-use Rattle.std.proofs.Common.{◌≡◌, ℕ, zero, suc, ◌+◌, ◌-◌, ◌%◌, ◌<◌, ◌≤◌, Bool, true, false, not, ◌||◌, cond, nat_eq, nat_lt, List, [], ◌∷◌, length, refl, sym, ap, ◌∙◌, zero-add, arith, inl, inr}
+use Rattle.std.proofs.Common.{◌≡◌, ℕ, zero, suc, ◌+◌, ◌-◌, ◌%◌, ◌<◌, ◌≤◌, Bool, true, false, not, ◌||◌, cond, nat_eq, nat_lt, List, ◌∷◌, length, refl, sym, ap, ◌∙◌, zero-add, arith, inl, inr}
 use Rattle.std.specs.Prelude.{filter}
 use Rattle.std.specs.List.{count_by}
 use Rattle.std.proofs.lemmas.Bool.{cases_eq, ne_eqb, eq-eqb, lt-ltb, le-ltb}
@@ -87,10 +87,6 @@ length-applied most number bit flips below =
 struck-declined : (most number bit : ℕ) (flips : List Standing) → nat_lt (length flips) most ≡ false → struck most number bit flips ≡ flips
 struck-declined most number bit flips full = ap (λ (b : Bool). cond b (record { number = number; bit = bit } ∷ flips) flips) full
 
--- a cell that was just written
-pub cell_fresh : (value : ℕ) → IsCellOf [] (fresh value)
-cell_fresh value = record { toggled = refl; hits = refl }
-
 pub cell_written : (how : How) (h : List Moment) (value : ℕ) → IsCellOf (Written how ∷ h) (fresh value)
 cell_written how h value = record { toggled = refl; hits = refl }
 
@@ -120,9 +116,6 @@ cell_struck h number bit old new (Declined hits) is flips =
 -- a cell reads good or bad by its history, and with its syndrome
 pub good_history : (h : List Moment) (cell : CellState) → IsCellOf h cell → length cell.toggled < 2 → is_bad_word h ≡ false
 good_history h cell is few = ap (λ (set : List ℕ). nat_eq (length set) 2) (sym is.toggled) ∙ ne_eqb (length cell.toggled) 2 (λ e. absurd (omega (arith, e, few)))
-
-pub bad_history : (h : List Moment) (cell : CellState) → IsCellOf h cell → length cell.toggled ≡ 2 → is_bad_word h ≡ true
-bad_history h cell is two = ap (λ (set : List ℕ). nat_eq (length set) 2) (sym is.toggled) ∙ eq-eqb (length cell.toggled) 2 two
 
 pub same_syndrome : (h : List Moment) (cell : CellState) → IsCellOf h cell → syndrome_of cell ≡ syndrome h
 same_syndrome h cell is = ap columns_sum is.toggled

@@ -4,12 +4,12 @@ use Rattle.std.proofs.lemmas.Bool.{cases_eq}
 use Rattle.edac_code.specs.Code.{check_bits}
 use Rattle.lf_io.specs.Held.{FileMap}
 use Rattle.lf_io.specs.Taken.{Takes}
+use Rattle.lf_model.specs.Promise.Played.{IsPlayedBy}
 use Rattle.lf_model.specs.Report.{report}
 use Rattle.lf_model.specs.Texts.{hex_field, line_feed}
 use Rattle.lf_model.specs.declared.setup.Event.{Event}
 use Rattle.lf_model.specs.declared.setup.Setup.{Setup}
 use Rattle.lf_model.specs.declared.trace.Trace.{Trace}
-use Rattle.early_play.specs.Played.{IsPlayed}
 use Rattle.leon_main.proofs.SettledLemmas.{settled}
 use Rattle.leon_main.specs.Accepted.{AreParts, IsFirstRefusal}
 use Rattle.leon_main.specs.Call.{IsReportOf, IsFault, IsOutcome, status_of, text_of, IsFaultless, IsHindered, Tells, Refuses, Reports, Decides}
@@ -56,14 +56,17 @@ by_report words files old new trace status cause own = record {
   usage = λ none. play_not_none (request_of words) cause.names cause.asked none;
   check_bits = λ word codes. play_not_codes (request_of words) cause.names word cause.asked codes;
   refused = λ names fault asked refusal. absurd (
-      (settled cause.names files).not_both (cause.setup, cause.spelled.0, cause.spelled.1) (fault, renamed_refusal words files cause.names names fault cause.asked asked refusal));
-  played = λ names setup events asked parts. played_as setup
-      ((settled cause.names files).one_setup cause.setup setup cause.spelled.0 events cause.spelled.1 (renamed_parts words files cause.names names setup events cause.asked asked parts));
+      (settled cause.names files).not_both (cause.setup, cause.events, cause.spelled) (fault, renamed_refusal words files cause.names names fault cause.asked asked refusal));
+  played = λ names setup events asked parts.
+      let renamed = renamed_parts words files cause.names names setup events cause.asked asked parts in
+      played_as setup events ((settled cause.names files).one_setup cause.setup setup cause.events events cause.spelled renamed)
+      ((settled cause.names files).one_schedule cause.setup setup cause.events events cause.spelled renamed);
 }
   where
-    played_as : (setup : Setup) → cause.setup ≡ setup → Reports status old new setup
-    played_as setup same = elim own [
-      | inl told ↦ inl (trace, subst (λ (s : Setup). IsPlayed s trace) same cause.played, told.0, told.1)
+    played_as : (setup : Setup) (events : List Event) → cause.setup ≡ setup → cause.events ≡ events → Reports status old new setup events
+    played_as setup events same same_events = elim own [
+      | inl told ↦ inl (trace, subst (λ (e : List Event). IsPlayedBy setup e trace) same_events
+          (subst (λ (s : Setup). IsPlayedBy s cause.events trace) same cause.played), told.0, told.1)
       | inr fault ↦ inr (inr fault)
     ]
 

@@ -1,7 +1,6 @@
 -- One file of a run: its bytes are accepted or refused, and not both, and are refused with one fault.
-use Rattle.std.proofs.Common.{ℕ, ◌≡◌, ◌+◌, ◌<◌, ◌≤◌, ◌⊎◌, [], zero, suc, List, length, Option, Some, None, Result, Ok, Err, refl, sym, subst, ap, ◌∙◌, inl, inr, arith}
+use Rattle.std.proofs.Common.{ℕ, ◌≡◌, ◌+◌, ◌<◌, ◌≤◌, ◌⊎◌, zero, suc, List, length, Option, Some, None, Result, Ok, Err, refl, sym, subst, ap, ◌∙◌, inl, inr, arith}
 use Rattle.std.proofs.lemmas.Bool.{cases_lt}
-use Rattle.std.proofs.lemmas.List.{get_or_past}
 use Rattle.elf_image.specs.Answer as elf
 use Rattle.elf_image.specs.Names.{number_of}
 use Rattle.elf_image.specs.Refusals.{conditions, first_fault}
@@ -14,9 +13,11 @@ use Rattle.lf_model.specs.declared.setup.Event.{Event}
 use Rattle.run_texts.proofs.AnswerLemmas.{never_memory}
 use Rattle.run_texts.specs.Configuration.{config_answer}
 use Rattle.run_texts.specs.Faults.{IsFirst}
-use Rattle.run_texts.specs.FlipLine as lines
-use Rattle.run_texts.specs.Schedule.{IsSchedule, schedule_fault_at}
-use Rattle.run_texts.specs.Script.{IsScript, fault_at, flips_of}
+use Rattle.run_texts.proofs.GrammarLemmas.{fault_past}
+use Rattle.run_texts.proofs.TextAnswers.{no_flip_fault, no_event_fault}
+use Rattle.run_texts.specs.Grammar.{all_spelled, fault_at}
+use Rattle.run_texts.specs.Schedule.{event_lines, IsSchedule}
+use Rattle.run_texts.specs.Script.{flip_lines, IsScript}
 use Rattle.run_texts.specs.Text.{rows}
 use Rattle.run_texts.specs.declared.config_error.ConfigErr.{ConfigErr}
 use Rattle.run_texts.specs.declared.config_error.ConfigErr.TheVariants as errors
@@ -80,15 +81,6 @@ one_first fault_at_ line more why other first second =
       ]
     ]
 
--- a line past the end of a text has no fault
-no_script_fault : (config : Config) (text : List ℕ) (place : ℕ) → length (rows text) ≤ place → fault_at config text place ≡ None
-unfolding fault_at lines.fault_of
-no_script_fault config text place past = rw (get_or_past (rows text) place [] past) refl
-
-no_schedule_fault : (config : Config) (text : List ℕ) (place : ℕ) → length (rows text) ≤ place → schedule_fault_at config text place ≡ None
-unfolding schedule_fault_at
-no_schedule_fault config text place past = rw (get_or_past (rows text) place [] past) refl
-
 -- a text without a faulty line has no first one
 no_first : (fault_at_ : ℕ → Option TextWhy) (n line : ℕ) (why : TextWhy) → ((place : ℕ) → n ≤ place → fault_at_ place ≡ None)
     → ((place : ℕ) → place < n → fault_at_ place ≡ None) → IsFirst fault_at_ line why → ⊥
@@ -114,12 +106,12 @@ faulty_image config bytes (BadImage number offset) told = (number, (offset, (tol
 faulty_image config bytes fault told = absurd told
 
 faulty_script : (config : Config) (bytes : List ℕ) (fault : Fault) → IsFaulty Script config bytes fault
-    → (line : ℕ) × ((why : TextWhy) × (IsFirst (fault_at config bytes) line why × (fault ≡ BadScript line why)))
+    → (line : ℕ) × ((why : TextWhy) × (IsFirst (fault_at (flip_lines config) bytes) line why × (fault ≡ BadScript line why)))
 faulty_script config bytes (BadScript line why) told = (line, (why, (told, refl)))
 faulty_script config bytes fault told = absurd told
 
 faulty_schedule : (config : Config) (bytes : List ℕ) (fault : Fault) → IsFaulty Schedule config bytes fault
-    → (line : ℕ) × ((why : TextWhy) × (IsFirst (schedule_fault_at config bytes) line why × (fault ≡ BadSchedule line why)))
+    → (line : ℕ) × ((why : TextWhy) × (IsFirst (fault_at (event_lines config) bytes) line why × (fault ≡ BadSchedule line why)))
 faulty_schedule config bytes (BadSchedule line why) told = (line, (why, (told, refl)))
 faulty_schedule config bytes fault told = absurd told
 
@@ -131,10 +123,10 @@ sound_not_faulty Image config bytes fault sound faulty =
     let both : None ≡ Some told.1.1.0.fault = sym sound.1.accepted ∙ told.1.1.0.first in cc
 sound_not_faulty Script config bytes fault sound faulty =
     let told = faulty_script config bytes fault faulty in
-    no_first (fault_at config bytes) (length (rows bytes)) told.0 told.1.0 (λ place past. no_script_fault config bytes place past) sound.1.faultless told.1.1.0
+    no_first (fault_at (flip_lines config) bytes) (length (rows bytes)) told.0 told.1.0 (fault_past (flip_lines config) (no_flip_fault config) bytes) sound.1.faultless told.1.1.0
 sound_not_faulty Schedule config bytes fault sound faulty =
     let told = faulty_schedule config bytes fault faulty in
-    no_first (schedule_fault_at config bytes) (length (rows bytes)) told.0 told.1.0 (λ place past. no_schedule_fault config bytes place past) sound.1.faultless told.1.1.0
+    no_first (fault_at (event_lines config) bytes) (length (rows bytes)) told.0 told.1.0 (fault_past (event_lines config) (λ earlier. no_event_fault config) bytes) sound.1.faultless told.1.1.0
 
 -- the same refusal tells the same number and offset
 same_refusal : (ram : ℕ) (bytes : List ℕ) (number offset more other : ℕ) → elf.IsRefused ram bytes number offset → elf.IsRefused ram bytes more other → (number ≡ more) × (offset ≡ other)
@@ -170,12 +162,12 @@ one_fault Image config bytes fault other first second =
 one_fault Script config bytes fault other first second =
     let a = faulty_script config bytes fault first in
     let b = faulty_script config bytes other second in
-    let same = one_first (fault_at config bytes) a.0 b.0 a.1.0 b.1.0 a.1.1.0 b.1.1.0 in
+    let same = one_first (fault_at (flip_lines config) bytes) a.0 b.0 a.1.0 b.1.0 a.1.1.0 b.1.1.0 in
     a.1.1.1 ∙ (same_script a.0 b.0 a.1.0 b.1.0 same.0 same.1 ∙ sym b.1.1.1)
 one_fault Schedule config bytes fault other first second =
     let a = faulty_schedule config bytes fault first in
     let b = faulty_schedule config bytes other second in
-    let same = one_first (schedule_fault_at config bytes) a.0 b.0 a.1.0 b.1.0 a.1.1.0 b.1.1.0 in
+    let same = one_first (fault_at (event_lines config) bytes) a.0 b.0 a.1.0 b.1.0 a.1.1.0 b.1.1.0 in
     a.1.1.1 ∙ (same_schedule a.0 b.0 a.1.0 b.1.0 same.0 same.1 ∙ sym b.1.1.1)
 
 -- the bytes are what the reader takes, or faulty
@@ -195,13 +187,13 @@ sound_or_faulty Image config bytes =
       | inr some ↦ inr (BadImage (number_of some.0.refusal) some.0.offset, record { fault = some.0; first = some.1; number_told = refl; offset_told = refl })
     ]
 sound_or_faulty Script config bytes =
-    elim (first_or_none (fault_at config bytes) (length (rows bytes))) [
-      | inl faultless ↦ inl (flips_of config (rows bytes), record { faultless = faultless; spelled = refl })
+    elim (first_or_none (fault_at (flip_lines config) bytes) (length (rows bytes))) [
+      | inl faultless ↦ inl (all_spelled (flip_lines config) (rows bytes), record { faultless = faultless; spelled = refl })
       | inr first ↦ inr (BadScript first.0 first.1.0, first.1.1)
     ]
 sound_or_faulty Schedule config bytes =
-    elim (first_or_none (schedule_fault_at config bytes) (length (rows bytes))) [
-      | inl faultless ↦ inl ([], record { faultless = faultless; spelled = refl })
+    elim (first_or_none (fault_at (event_lines config) bytes) (length (rows bytes))) [
+      | inl faultless ↦ inl (all_spelled (event_lines config) (rows bytes), record { faultless = faultless; spelled = refl })
       | inr first ↦ inr (BadSchedule first.0 first.1.0, first.1.1)
     ]
 

@@ -7,3 +7,4 @@ pub mod DecideLemmas
 pub mod GivenLemmas
 pub mod LineLengths
 pub mod MemoryLemmas
+pub mod PlayableLemmas

@@ -6,11 +6,13 @@ use Rattle.lf_model.specs.declared.flip.Flip.{Flip}
 use Rattle.lf_model.specs.declared.image.Image as images
 use Rattle.lf_model.specs.declared.setup.Event.{Event}
 use Rattle.lf_model.specs.declared.setup.Setup.{Setup}
-use Rattle.run_texts.specs.Script.{flips_of}
+use Rattle.run_texts.specs.Grammar.{all_spelled}
+use Rattle.run_texts.specs.Schedule.{event_lines}
+use Rattle.run_texts.specs.Script.{flip_lines}
 use Rattle.run_texts.specs.Text.{rows}
 use Rattle.leon_main.proofs.CauseLemmas.{blank}
 use Rattle.leon_main.proofs.FileLemmas.{IsAccepted, accepted_not_refused, one_refusal, accepted_or_refused}
-use Rattle.leon_main.specs.Accepted.{bytes_of, SpellsConfiguration, SpellsImage, SpellsScript, AreParts, AreAcceptedBefore, IsRefused, IsFirstRefusal}
+use Rattle.leon_main.specs.Accepted.{bytes_of, SpellsConfiguration, SpellsImage, SpellsScript, SpellsSchedule, AreParts, AreAcceptedBefore, IsRefused, IsFirstRefusal}
 use Rattle.leon_main.specs.Call.{HasParts, HasRefusal, IsSettled}
 use Rattle.leon_main.specs.Files.{name_in}
 use Rattle.leon_main.specs.Words.{FileNames}
@@ -30,7 +32,12 @@ one_image : (config other : Config) (bytes : List ℕ) (image more : images.Imag
 one_image config other bytes image more first second = first.1.spelled ∙ sym second.1.spelled
 
 one_script : (config other : Config) (bytes : List ℕ) (flips more : List Flip) → config ≡ other → SpellsScript config bytes flips → SpellsScript other bytes more → flips ≡ more
-one_script config other bytes flips more same first second = first.1.spelled ∙ (ap (λ (c : Config). flips_of c (rows bytes)) same ∙ sym second.1.spelled)
+one_script config other bytes flips more same first second = first.1.spelled ∙ (ap (λ (c : Config). all_spelled (flip_lines c) (rows bytes)) same ∙ sym second.1.spelled)
+
+one_schedule : (config other : Config) (bytes : List ℕ) (events more : List Event) → config ≡ other → SpellsSchedule config bytes events
+    → SpellsSchedule other bytes more → events ≡ more
+one_schedule config other bytes events more same first second =
+    first.1.spelled ∙ (ap (λ (c : Config). all_spelled (event_lines c) (rows bytes)) same ∙ sym second.1.spelled)
 
 of_parts : (config other : Config) (image more : images.Image) (flips others : List Flip) → config ≡ other → image ≡ more → flips ≡ others
     → ◌≡◌ {A = Setup} (record { config = config; image = image; flips = flips }) (record { config = other; image = more; flips = others })
@@ -45,6 +52,11 @@ one_setup names files setup other events more first second =
     same_setup setup other config
     (one_image setup.config other.config (bytes_of files names.image) setup.image other.image first.image second.image)
     (one_script setup.config other.config (bytes_of files names.script) setup.flips other.flips config first.script second.script)
+
+one_events : (names : FileNames) (files : FileMap) (setup other : Setup) (events more : List Event) → AreParts names files setup events → AreParts names files other more → events ≡ more
+one_events names files setup other events more first second =
+    one_schedule setup.config other.config (bytes_of files names.schedule) events more
+    (one_config (bytes_of files names.configuration) setup.config other.config first.configuration second.configuration) first.schedule second.schedule
 
 -- where all files are accepted none is the first refusal
 not_both : (names : FileNames) (files : FileMap) (setup : Setup) (events : List Event) (fault : Fault) → AreParts names files setup events → IsFirstRefusal names files fault → ⊥
@@ -163,6 +175,7 @@ settled names files = record {
   either = either names files;
   not_both = λ parts refusal. not_both names files parts.0 parts.1 refusal.0 parts.2 refusal.1;
   one_setup = one_setup names files;
+  one_schedule = one_events names files;
   one_fault = λ fault other first second.
       one_first names files first.file second.file first.setup second.setup fault other first.accepted first.refused second.accepted second.refused;
 }

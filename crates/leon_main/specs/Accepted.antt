@@ -9,8 +9,9 @@ use Rattle.lf_model.specs.declared.setup.Event.{Event}
 use Rattle.lf_model.specs.declared.setup.Setup.{Setup}
 use Rattle.elf_image.specs.Answer as elf
 use Rattle.run_texts.specs.Configuration.{config_answer}
-use Rattle.run_texts.specs.Schedule.{IsSchedule, IsFirstScheduleFault}
-use Rattle.run_texts.specs.Script.{IsScript, IsFirstFault}
+use Rattle.run_texts.specs.Grammar.{IsFirstFault}
+use Rattle.run_texts.specs.Schedule.{event_lines, IsSchedule}
+use Rattle.run_texts.specs.Script.{flip_lines, IsScript}
 use Rattle.run_texts.specs.declared.config_error.ConfigErr.TheVariants.{Text, Key, Kind, Range}
 use Rattle.leon_main.specs.Files.{limit_of, name_in}
 use Rattle.leon_main.specs.Words.{FileNames}
@@ -64,8 +65,8 @@ IsFaulty Configuration config bytes UnknownKey = config_answer bytes ≡ Err Key
 IsFaulty Configuration config bytes (WrongKind key) = config_answer bytes ≡ Err (Kind key)
 IsFaulty Configuration config bytes (OutOfRange key) = config_answer bytes ≡ Err (Range key)
 IsFaulty Image config bytes (BadImage number offset) = elf.IsRefused config.ram bytes number offset
-IsFaulty Script config bytes (BadScript line why) = IsFirstFault config bytes line why
-IsFaulty Schedule config bytes (BadSchedule line why) = IsFirstScheduleFault config bytes line why
+IsFaulty Script config bytes (BadScript line why) = IsFirstFault (flip_lines config) bytes line why
+IsFaulty Schedule config bytes (BadSchedule line why) = IsFirstFault (event_lines config) bytes line why
 IsFaulty _ config bytes _ = ⊥
 
 -- the bytes of a file are refused: they are too many, or else faulty

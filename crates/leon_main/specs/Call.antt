@@ -4,13 +4,13 @@ use Rattle.edac_code.specs.Code.{check_bits}
 use Rattle.lf_io.specs.Count.{Rose}
 use Rattle.lf_io.specs.Held.{FileMap}
 use Rattle.lf_io.specs.Taken.{Takes, TakesPrefix}
+use Rattle.lf_model.specs.Promise.Played.{IsPlayedBy}
 use Rattle.lf_model.specs.Report.{report}
 use Rattle.lf_model.specs.Texts.{hex_field, line_feed}
 use Rattle.lf_model.specs.declared.setup.Event.{Event}
 use Rattle.lf_model.specs.declared.setup.Setup.{Setup}
 use Rattle.lf_model.specs.declared.trace.Trace.{Trace}
-use Rattle.early_play.specs.Playable.{IsPlayable}
-use Rattle.early_play.specs.Played.{IsPlayed}
+use Rattle.machine_play.specs.Playable.{IsPlayable}
 use Rattle.leon_main.specs.Accepted.{AreParts, IsFirstRefusal}
 use Rattle.leon_main.specs.Ends.{status_of_cores}
 use Rattle.leon_main.specs.Faults as faults
@@ -25,15 +25,16 @@ use Rattle.leon_main.specs.declared.run_file.RunFile.{RunFile}
 
 -- ---- why each answer comes
 
--- a report: the words ask for a run, the files that they name, where these are told, spell this setup, and the trace is one
--- of its runs
+-- a report: the words ask for a run, the files that they name, where these are told, spell this setup and these events, and
+-- the trace is that of a run of the setup by this schedule
 pub record IsReportOf (words : List (List ℕ)) (held : Option FileMap) (trace : Trace) : Type 0 where
   pub names : FileNames
   pub setup : Setup
+  pub events : List Event
   pub asked : AsksToPlay words names
-  pub spelled : IfSome held (λ files. (events : List Event) × AreParts names files setup events)
+  pub spelled : IfSome held (λ files. AreParts names files setup events)
   pub playable : IsPlayable setup
-  pub played : IsPlayed setup trace
+  pub played : IsPlayedBy setup events trace
 
 abbrev pub IsAnswer : List (List ℕ) → Option FileMap → Answer → Type 0
 IsAnswer words held (Report trace) = IsReportOf words held trace
@@ -100,10 +101,10 @@ abbrev pub Refuses : ℕ → Option (List ℕ) → Option (List ℕ) → Fault �
 Refuses status old new fault =
     ((status ≡ faults.status_of fault) × Takes old new (faults.line_of fault)) ⊎ IsHindered status
 
--- the whole report of a run of this setup, with the status of its ends, unless the call was hindered
-abbrev pub Reports : ℕ → Option (List ℕ) → Option (List ℕ) → Setup → Type 0
-Reports status old new setup =
-    ((trace : Trace) × IsPlayed setup trace × (status ≡ status_of_cores trace.cores) × Takes old new (report trace))
+-- the whole report of a run of this setup by these events, with the status of its ends, unless the call was hindered
+abbrev pub Reports : ℕ → Option (List ℕ) → Option (List ℕ) → Setup → List Event → Type 0
+Reports status old new setup events =
+    ((trace : Trace) × IsPlayedBy setup events trace × (status ≡ status_of_cores trace.cores) × Takes old new (report trace))
     ⊎ IsHindered status
 
 -- words and told files decide the answer, in these four cases
@@ -114,9 +115,9 @@ pub record Decides (words : List (List ℕ)) (files : FileMap) (old new : Option
   pub refused : (names : FileNames) (fault : Fault) → AsksToPlay words names → IsFirstRefusal names files fault
       → Refuses status old new fault
   pub played : (names : FileNames) (setup : Setup) (events : List Event) → AsksToPlay words names
-      → AreParts names files setup events → Reports status old new setup
+      → AreParts names files setup events → Reports status old new setup events
 
--- the files spell a setup; or one of them is the first that is refused
+-- the files spell a setup and events; or one of them is the first that is refused
 abbrev pub HasParts : FileNames → FileMap → Type 0
 HasParts names files = (setup : Setup) × (events : List Event) × AreParts names files setup events
 
@@ -129,4 +130,6 @@ pub record IsSettled (names : FileNames) (files : FileMap) : Type 0 where
   pub not_both : HasParts names files → HasRefusal names files → ⊥
   pub one_setup : (setup other : Setup) (events more : List Event) → AreParts names files setup events
       → AreParts names files other more → setup ≡ other
+  pub one_schedule : (setup other : Setup) (events more : List Event) → AreParts names files setup events
+      → AreParts names files other more → events ≡ more
   pub one_fault : (fault other : Fault) → IsFirstRefusal names files fault → IsFirstRefusal names files other → fault ≡ other

@@ -5,7 +5,7 @@ ghost use Rattle.lf_io.specs.Count.{Rose};
 ghost use Rattle.lf_io.specs.Held.{FileMap};
 ghost use Rattle.lf_io.specs.Taken.{Takes, TakesPrefix};
 ghost use Rattle.lf_model.specs.declared.setup.Event.{Event};
-ghost use Rattle.early_play.specs.Playable.{IsPlayable};
+ghost use Rattle.machine_play.specs.Playable.{IsPlayable};
 ghost use Rattle.leon_main.specs.Accepted.{AreParts};
 ghost use Rattle.leon_main.specs.Call.{IsOutcome, IsAnswered, IsCutOff, IsFaultless, Tells, Decides, IsSettled, status_of, text_of};
 ghost use Rattle.leon_main.specs.Faults.{line_of};
@@ -18,27 +18,35 @@ use crate::fault::Fault;
 use crate::reading;
 use crate::words::{Command, Names, WordsErr, command_of};
 use lf_io::{Files, Sink};
-use lf_model::setup::Setup;
+use lf_model::setup::{Event, Setup};
 use std::alloc::Global;
 use std::process::ExitCode;
 
-/// The setup that the files of a run spell.
-fn setup_of<F: Files>(alloc: Global, files: &mut F, names: Names) -> Result<Setup, Fault>
-    ensures parts { IfOk result (λ setup. IfSome (F.held files.old)
-        (λ held. (events : List Event) × AreParts (told names.entry) held setup events)) }
-    ensures playable { IfOk result IsPlayable }
+/// What the files of a run spell: the machine with all that happens to it, and the order in which its actors move.
+#[derive(Drop)]
+struct Run {
+    setup: Setup,
+    events: Vec<Event>,
+}
+
+/// The setup and the schedule that the files of a run spell.
+fn run_of<F: Files>(alloc: Global, files: &mut F, names: Names) -> Result<Run, Fault>
+    ensures parts { IfOk result (λ run. IfSome (F.held files.old)
+        (λ held. AreParts (told names.entry) held run.setup run.events.items)) }
+    ensures playable { IfOk result (λ run. IsPlayable run.setup) }
     ensures cause { IfErr result
         (IsCause (told names.entry) (F.held files.old) (F.faults files.old) (F.faults files.new)) }
 {
     let config = reading::configuration(alloc, files, names.configuration)?;
     let image = reading::image(alloc, files, names.image, &config)?;
     let flips = reading::script(alloc, files, names.script, &config)?;
-    let _events = reading::schedule(alloc, files, names.schedule, &config)?;
-    Ok(Setup {
+    let events = reading::schedule(alloc, files, names.schedule, &config)?;
+    let setup = Setup {
         image,
         config,
         flips,
-    })
+    };
+    Ok(Run { setup, events })
 }
 
 /// The check bits of a word.
@@ -55,8 +63,8 @@ fn outcome_of<F: Files>(alloc: Global, words: &[String], files: &mut F) -> Resul
 {
     match command_of(words) {
         Some(Command::Play(names)) => {
-            let setup = setup_of(alloc, files, names)?;
-            let trace = early_play::play(alloc, &setup)?;
+            let run = run_of(alloc, files, names)?;
+            let trace = machine_play::play(alloc, &run.setup, &run.events)?;
             Ok(Answer::Report(trace))
         }
         Some(Command::Codes(word)) => Ok(Answer::CheckBits(check_bits(word))),
@@ -93,7 +101,7 @@ fn tell_memory<K: Sink>(out: &mut K) -> u8
 
 /// Does what the words of a call say, and answers the exit status.
 ///
-/// `play IMAGE CONFIG SCRIPT SCHEDULE` runs an image and writes its report; `codes WORD` writes the check bits of a word of
+/// `play IMAGE CONFIG SCRIPT SCHEDULE` runs an image by a schedule and writes its report; `codes WORD` writes the check bits of a word of
 /// 8 hexadecimal digits. A line that begins with `error` tells why there is no result. Nothing is written after the sink
 /// failed.
 pub fn plain_call<F: Files, K: Sink>(
@@ -103,7 +111,8 @@ pub fn plain_call<F: Files, K: Sink>(
     out: &mut K,
 ) -> u8
     // A status other than 8 comes with its cause, and its whole text was taken. The text of a run is the report of a
-    // trace that is a total-store-order execution of the image's code, with that execution's results.
+    // trace that is a total-store-order execution of the image's code, with that execution's results; that gives account
+    // of each flip, fill, cached load and transfer; and whose transfers come in the order of the schedule.
     ensures answered { result ≢ 8
         → IsAnswered (map string_bytes words.now) (F.held files.old) (F.faults files.old) (F.faults files.new)
         (K.taken out.old) (K.taken out.new) result }
@@ -118,12 +127,13 @@ pub fn plain_call<F: Files, K: Sink>(
         (K.taken out.old) (K.taken out.new) }
 
     // Where the files tell what they hold and none of their faults was counted, words and files decide the answer: words
-    // that are not taken, a word for its check bits, the first refusal of the files, or the setup that they spell.
+    // that are not taken, a word for its check bits, the first refusal of the files, or the setup and the schedule that
+    // they spell.
     ensures decides { (held : FileMap) → F.held files.old ≡ Some held
         → IsFaultless (map string_bytes words.now) (F.faults files.old) (F.faults files.new)
         → Decides (map string_bytes words.now) held (K.taken out.old) (K.taken out.new) result }
 
-    // Files either spell one setup or have one first refusal.
+    // Files either spell one setup and one schedule or have one first refusal.
     ensures settled { (names : FileNames) (held : FileMap) → IsSettled names held }
 {
     let outcome = outcome_of(alloc, words, files);

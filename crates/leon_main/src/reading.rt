@@ -81,6 +81,7 @@ pub fn script<F: Files>(
     name: &str,
     config: &Config,
 ) -> Result<Flips, Fault>
+    requires of_table { IsOfTable config.now }
     ensures spelled { IfOk result (λ flips. IfSome (content (F.held files.old) name.now)
         (λ bytes. SpellsScript config.now bytes flips)) }
     ensures few { IfOk result (λ flips. length flips ≤ most_flips) }

@@ -8,7 +8,7 @@ use Rattle.lf_model.specs.Bus.Words.{Word, is_at, history_of, word_history, stru
 use Rattle.lf_model.specs.Course.Syndromes.{is_bad_syndrome, packed, has_address}
 use Rattle.lf_model.specs.Flips.{How, Moment, is_bad_word, syndrome}
 use Rattle.lf_model.specs.Flips.Moment.{Struck, Written, Named}
-use Rattle.lf_model.specs.Strikes.{numbered_flips}
+use Rattle.lf_model.specs.NumberedFlips.{numbered_flips}
 use Rattle.lf_model.specs.Promise.NeverStops.{was_bad, word_was_bad}
 use Rattle.lf_model.specs.declared.bus.Transfer.{Transfer}
 use Rattle.lf_model.specs.declared.bus.TurnKind.{TurnKind}

@@ -1,16 +1,12 @@
 -- The rule Result: what the trace tells of each core and each watched word is that of the execution.
-use Rattle.std.specs.Prelude.{ℕ, ◌≡◌, ◌≤◌, ◌<◌, ◌+◌, ◌==◌, ◌&&◌, Bool, ⊤, List, length, map, filter, count_by, slice_get, Option, Some, None, IfSome, nat_lt, if◌then◌else◌}
+use Rattle.std.specs.Prelude.{ℕ, ◌≡◌, ◌<◌, ◌==◌, ◌&&◌, Bool, ⊤, List, map, filter, slice_get, Option, Some, None, IfSome, nat_lt, if◌then◌else◌}
 use Rattle.lf_model.specs.Start.{initial_byte, number_at}
-use Rattle.lf_model.specs.State.{State, register, psr_of}
-use Rattle.lf_model.specs.Operation.{of_core, enters, made, is_lost}
-use Rattle.lf_model.specs.Places.{FailsNowhere}
+use Rattle.lf_model.specs.State.{State, register}
+use Rattle.lf_model.specs.Operation.{enters, made}
 use Rattle.lf_model.specs.Value.{stored}
-use Rattle.lf_model.specs.Execution.{run_of_core}
 use Rattle.lf_model.specs.declared.bus.Transfer.{Transfer}
 use Rattle.lf_model.specs.declared.trace.CoreEnd.{CoreEnd}
 use Rattle.lf_model.specs.declared.trace.CoreEnd.TheVariants.{Halt, Stop, Limit}
-use Rattle.lf_model.specs.declared.trace.CoreResult.{CoreResult}
-use Rattle.lf_model.specs.declared.trace.Op.{Op}
 use Rattle.lf_model.specs.declared.trace.Word2.{Word2}
 use Rattle.lf_model.specs.declared.trace.Trace.{Trace}
 use Rattle.lf_model.specs.declared.setup.Setup.{Setup}
@@ -39,10 +35,6 @@ LosesStores (Halt tt_) = ⊥
 LosesStores (Stop tt_ place syn) = tt_ ≡ 0x2B
 LosesStores Limit = ⊥
 
--- the operation is a lost store of core c
-abbrev pub is_lost_by : ℕ → Op → Bool
-is_lost_by c o = of_core c o && is_lost o
-
 -- the transfer is of core c, in one of its steps
 abbrev pub is_in_steps : ℕ → ℕ → Transfer → Bool
 is_in_steps c steps t = t.master == c && nat_lt t.step steps
@@ -50,27 +42,6 @@ is_in_steps c steps t = t.master == c && nat_lt t.step steps
 -- each printed register that has a value is that of the current window
 abbrev pub ShowsRegisters : State → List (Option ℕ) → Type 0
 ShowsRegisters s regs = (n : ℕ) → n < 32 → IfSome (slice_get regs n) (λ shown. IfSome shown (λ value. value ≡ register s n))
-
--- the result of core c shows the state that the core's run has after its instructions
-pub record Shows (setup : Setup) (trace : Trace) (c : ℕ) (r : CoreResult) (s : State) : Type 0 where
-  pub out : r.out ≡ s.out
-  pub psr : r.psr ≡ psr_of s.ctl
-  pub wim : r.wim ≡ s.wim
-  pub tbr : r.tbr ≡ s.ctl.tbr
-  pub y : r.y ≡ s.y
-  pub pc : r.pc ≡ s.ctl.pc
-  pub npc : r.npc ≡ s.ctl.npc
-  pub registers : ShowsRegisters s r.regs
-  pub halt : s.halt ≡ halt_of r.end
-  pub ends : IsEnd setup r.steps r.end
-  pub within : r.steps ≤ setup.config.steps
-  pub bound : r.steps ≤ r.n + count_by (is_in_steps c r.steps) trace.transfers + idle_steps r.end
-  pub lost : 0 < count_by (is_lost_by c) trace.order → LosesStores r.end
-
--- Result, of core c: its result shows the state after its n instructions; that its run comes so far is Thread's
-abbrev pub ResultAt : Setup → Trace → ℕ → Type 0
-ResultAt setup trace c = IfSome (slice_get trace.cores c) (λ r.
-    IfSome (run_of_core setup trace c r.n) (λ q. Shows setup trace c r q.state))
 
 -- the byte of memory at the end: that of the last store or atomic in the order, lost stores aside
 abbrev pub final_byte : Setup → Trace → ℕ → ℕ
@@ -82,8 +53,3 @@ ShowsWord setup trace word = IfSome word.value (λ value. value ≡ number_at (f
 
 abbrev pub ResultAtFinal : Setup → Trace → ℕ → Type 0
 ResultAtFinal setup trace i = IfSome (slice_get trace.watch i) (ShowsWord setup trace)
-
--- the results of the trace are those of its execution
-pub record HasResults (setup : Setup) (trace : Trace) : Type 0 where
-  pub cores : FailsNowhere setup.config.cores (ResultAt setup trace)
-  pub final : FailsNowhere (length trace.watch) (ResultAtFinal setup trace)

@@ -11,7 +11,7 @@ use Rattle.lf_model.specs.Order.{LoadOpAt, StoreStoreAt}
 use Rattle.lf_model.specs.Value.{ValueAt, Reads, stored, candidates}
 use Rattle.lf_model.specs.Once.{is_number, HasMaster, OnceAtCore, OnceAtTransfer, OnceAtFinal, address_of}
 use Rattle.lf_model.specs.Run.{Run, run}
-use Rattle.lf_model.specs.Execution.{answers_of}
+use Rattle.lf_model.specs.ProgramOrder.{answers_of}
 use Rattle.lf_model.specs.Promise.Headline.{IsTsoExecution}
 use Rattle.lf_model.specs.Records.CoreRules.{EndedCore, HasThread, ThreadAt, core_in_trace}
 use Rattle.lf_model.specs.declared.bus.Entry.{Entry}

@@ -11,7 +11,7 @@ use Rattle.lf_model.specs.Course.Outcome.{Need}
 use Rattle.lf_model.specs.Course.Outcome.Need.{NoTurn, Turn, RegisterStop}
 use Rattle.lf_model.specs.Course.Progress.{Completion, Progress}
 use Rattle.lf_model.specs.Course.Turn.{turn_attempt, turn_needs, addressed}
-use Rattle.lf_model.specs.Execution.{program_order}
+use Rattle.lf_model.specs.ProgramOrder.{program_order}
 use Rattle.lf_model.specs.Ledger.Account.{replay_of, ground_in, transfer_made, completions_of, arrays_of}
 use Rattle.lf_model.specs.Ledger.FlipFate.{flip_fates}
 use Rattle.lf_model.specs.Ledger.Same.{same_need, same_transfer}

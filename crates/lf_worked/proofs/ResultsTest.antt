@@ -6,7 +6,7 @@ use Rattle.std.proofs.lemmas.Bool.{eqb-true, lt-ltb, and_parts, leb-true, falseâ
 use Rattle.lf_model.specs.Start.{number_at}
 use Rattle.lf_model.specs.State.{State, register, psr_of}
 use Rattle.lf_model.specs.Run.{Run, run}
-use Rattle.lf_model.specs.Execution.{answers_of}
+use Rattle.lf_model.specs.ProgramOrder.{answers_of}
 use Rattle.lf_model.specs.Operation.{is_lost}
 use Rattle.lf_model.specs.Records.CoreRules.{EndedCore, ShowsState, ShowsResult, ResultAt, core_in_trace}
 use Rattle.lf_model.specs.Results.{halt_of, idle_steps, is_in_steps, IsEnd, LosesStores, ShowsRegisters, final_byte, ShowsWord, ResultAtFinal}

@@ -5,7 +5,7 @@ use Rattle.std.proofs.lemmas.List.{append-nil}
 use Rattle.std.proofs.lemmas.List.Sums.{sum-map, sum_by-append}
 use Rattle.std.specs.List.{enumerate_from}
 use Rattle.core_parts.specs.CoreValue.{CoreValue}
-use Rattle.lf_model.specs.Execution.{program_order}
+use Rattle.lf_model.specs.ProgramOrder.{program_order}
 use Rattle.lf_model.specs.Ledger.Steps.{own_transfers}
 use Rattle.lf_model.specs.Promise.Follows.{core_at_start, steps_of}
 use Rattle.lf_model.specs.Promise.Turns.{CoreLeft}

@@ -2,8 +2,8 @@ pub mod LineLemmas
 pub mod FieldLemmas
 pub mod Numerals
 pub mod RowLemmas
-pub mod ScriptLemmas
-pub mod ScheduleLemmas
+pub mod GrammarLemmas
+pub mod TextAnswers
 pub mod DocumentLemmas
 pub mod FaultLemmas
 pub mod TableLemmas

@@ -1,6 +1,6 @@
 -- A configuration without a fault is one that the table of keys takes.
-use Rattle.std.proofs.Common.{ℕ, ◌≡◌, ◌+◌, ◌*◌, ◌%◌, ◌<◌, ◌≤◌, Bool, true, false, not, ◌&&◌, ◌==◌, nat_le, nat_lt, List, [], ◌∷◌, length, get_or, Option, Some, None, unwrap_or, option_and_then, refl, sym, ap, arith, lit<}
-use Rattle.std.specs.List.{filter_map, flat_map}
+use Rattle.std.proofs.Common.{ℕ, ◌≡◌, ◌+◌, ◌*◌, ◌%◌, ◌<◌, ◌≤◌, Bool, true, false, not, ◌&&◌, ◌==◌, nat_le, nat_lt, zero, suc, List, [], ◌∷◌, length, get_or, All, Option, Some, None, unwrap_or, option_and_then, refl, sym, arith, lit<}
+use Rattle.std.specs.List.{filter_map, flat_map, list_all, cons_option}
 use Rattle.std.specs.Option.{option_map_or}
 use Rattle.std.proofs.lemmas.Bool.{and_parts, leb-true, le-leb, eqb-true, ltb-true}
 use Rattle.toml.specs.Data.{Data, Members}
@@ -11,9 +11,9 @@ use Rattle.run_texts.specs.declared.keys.Key.TheVariants.{Cores, Ram, Steps, Win
 use Rattle.run_texts.specs.declared.keys.Kind.{Kind}
 use Rattle.run_texts.specs.declared.keys.Kind.TheVariants.{Integer, Integers}
 use Rattle.run_texts.specs.Columns.{first_fault}
-use Rattle.run_texts.specs.Keys.{row, keys, default_of, is_between, IsOfTable}
+use Rattle.run_texts.specs.Keys.{row, keys, default_of, is_between, IsWordOfRam, IsOfTable}
 use Rattle.run_texts.specs.Document.{has_known_keys, value_at, number, number_at, numbers_at, elements, config_of}
-use Rattle.run_texts.specs.Configuration.{is_within, key_faults, fault_of}
+use Rattle.run_texts.specs.Configuration.{is_number, is_within, key_faults, fault_of}
 use Rattle.run_texts.proofs.FaultLemmas.{no_fault_of_parts, no_fault_at}
 
 -- a test that fails is false
@@ -54,21 +54,52 @@ unfolding number_at IsKept
 number_in_range document config key default integer in_range is =
     value_kept (row key).kind ((row key).is_in_range config) default (value_at document key) integer in_range is
 
--- the array at the key has few enough elements
-array_kept : (kind : Kind) (test : ℕ → Bool) (value : Option Data) → kind ≡ Integers 0
-    → option_map_or (λ v. not (is_within kind test v)) value false ≡ false → option_map_or (λ v. filter_map number (elements v)) value [] ≡ []
-array_kept kind test None array is = refl
-array_kept kind test (Some value) array is =
-    let parts = and_parts (nat_le (length (elements value)) 0) _ (not_false _ (rw array at is)) in
-    ap (filter_map number) (empty (elements value) (leb-true _ _ parts.0))
-  where
-    empty : (values : List Data) → length values ≤ 0 → values ≡ []
-    empty [] few = refl
-    empty (value ∷ values) few = absurd (omega arith)
+-- the numbers of an array are no more than its elements, and each passes the test that all elements pass
+few_more : (n : Option ℕ) (numbers : List ℕ) (most : ℕ) → length numbers ≤ most → length (cons_option n numbers) ≤ most + 1
+few_more None numbers most few = omega (arith, few)
+few_more (Some n) numbers most few = omega (arith, few)
 
-pub watch_empty : (document : Members) (config : Config) → IsKept document config Watch → numbers_at document Watch ≡ []
+few_numbers : (values : List Data) → length (filter_map number values) ≤ length values
+few_numbers [] = omega arith
+few_numbers (value ∷ values) = omega (arith, few_more (number value) (filter_map number values) (length values) (few_numbers values))
+
+pass_more : (test : ℕ → Bool) (n : Option ℕ) (numbers : List ℕ) → option_map_or test n false ≡ true
+    → All (λ m. test m ≡ true) numbers → All (λ m. test m ≡ true) (cons_option n numbers)
+pass_more test None numbers is all = absurd cc
+pass_more test (Some n) numbers is all = at
+  where
+    at : (k d : ℕ) → k < length (n ∷ numbers) → test (get_or (n ∷ numbers) k d) ≡ true
+    at zero d within = is
+    at (suc k) d within = all k d (omega (arith, within))
+
+all_pass : (test : ℕ → Bool) (values : List Data) → list_all (is_number test) values ≡ true → All (λ m. test m ≡ true) (filter_map number values)
+all_pass test [] is = λ k d none. absurd (omega arith)
+all_pass test (value ∷ values) is =
+    let parts = and_parts (is_number test value) (list_all (is_number test) values) is in
+    pass_more test (number value) (filter_map number values) parts.0 (all_pass test values parts.1)
+
+-- the array at the key has few enough elements, each in range
+array_kept : (kind : Kind) (most : ℕ) (test : ℕ → Bool) (value : Option Data) → kind ≡ Integers most
+    → option_map_or (λ v. not (is_within kind test v)) value false ≡ false
+    → (length (option_map_or (λ v. filter_map number (elements v)) value []) ≤ most)
+    × All (λ m. test m ≡ true) (option_map_or (λ v. filter_map number (elements v)) value [])
+array_kept kind most test None array is = (omega arith, λ k d none. absurd (omega arith))
+array_kept kind most test (Some value) array is =
+    let parts = and_parts (nat_le (length (elements value)) most) (list_all (is_number test) (elements value)) (not_false _ (rw array at is)) in
+    let few : length (elements value) ≤ most = leb-true (length (elements value)) most parts.0 in
+    (omega (arith, few, few_numbers (elements value)), all_pass test (elements value) parts.1)
+
+word_facts : (ram addr : ℕ) → (addr % 4 == 0 && is_in_ram ram addr 4) ≡ true → IsWordOfRam ram addr
+word_facts ram addr is =
+    let parts = and_parts (addr % 4 == 0) (is_in_ram ram addr 4) is in
+    (eqb-true (addr % 4) 0 parts.0, parts.1)
+
+watch_facts : (document : Members) (config : Config) → IsKept document config Watch
+    → (length (numbers_at document Watch) ≤ 64) × All (IsWordOfRam config.ram) (numbers_at document Watch)
 unfolding numbers_at IsKept row
-watch_empty document config is = array_kept (row Watch).kind ((row Watch).is_in_range config) (value_at document Watch) refl is
+watch_facts document config is =
+    let facts = array_kept (row Watch).kind 64 ((row Watch).is_in_range config) (value_at document Watch) refl is in
+    (facts.0, λ k d within. word_facts config.ram (get_or (numbers_at document Watch) k d) (facts.1 k d within))
 
 -- what two or three tests say, which all hold
 between_facts : (least most n : ℕ) → is_between least most n ≡ true → (least ≤ n) × (n ≤ most)
@@ -87,8 +118,8 @@ steps_facts cores n is =
     let parts = and_parts (nat_lt 0 n) (nat_le (cores * n) 4000000) is in
     (ltb-true 0 n parts.0, leb-true (cores * n) 4000000 parts.1)
 
-steps_default : (cores : ℕ) → cores ≡ 1 → (nat_lt 0 100000 && nat_le (cores * 100000) 4000000) ≡ true
-steps_default cores one = rw one refl
+steps_default : (cores : ℕ) → cores ≤ 8 → (nat_lt 0 100000 && nat_le (cores * 100000) 4000000) ≡ true
+steps_default cores few = le-leb (cores * 100000) 4000000 (omega (arith, few))
 
 first_default : (ram : ℕ) → 65536 ≤ ram → (ram_first % 32 == 0 && is_in_ram ram ram_first 32) ≡ true
 first_default ram least = le-leb (ram_first + 32) (ram_first + ram) (omega arith)
@@ -114,20 +145,20 @@ pub of_table : (document : Members) → fault_of document (config_of document) �
 unfolding row config_of
 of_table document none =
     let c : Config = config_of document in
-    let cores = between_facts 1 1 c.cores (in_range document Cores 0 1 none (lit< tt) refl refl refl) in
-    let one : c.cores ≡ 1 = omega (arith, cores.0, cores.1) in
+    let cores = between_facts 1 8 c.cores (in_range document Cores 0 1 none (lit< tt) refl refl refl) in
     let ram = ram_facts c.ram (in_range document Ram 1 1048576 none (lit< tt) refl refl refl) in
-    let steps = steps_facts c.cores c.steps (in_range document Steps 2 100000 none (lit< tt) refl refl (steps_default c.cores one)) in
+    let steps = steps_facts c.cores c.steps (in_range document Steps 2 100000 none (lit< tt) refl refl (steps_default c.cores cores.1)) in
     let window = between_facts 1 1024 c.window (in_range document Window 3 64 none (lit< tt) refl refl refl) in
     let buffer = between_facts 1 8 c.buffer (in_range document Buffer 4 4 none (lit< tt) refl refl refl) in
+    let watched = watch_facts document c (kept document c 5 none (lit< tt)) in
     let first_in_range = in_range document ScrubFirst 10 ram_first none (lit< tt) refl refl (first_default c.ram ram.1) in
     let first = and_parts (c.scrub.first % 32 == 0) (is_in_ram c.ram c.scrub.first 32) first_in_range in
     let scrubbed = length_facts c.ram c.scrub.first c.scrub.length (in_range document ScrubLength 11 32 none (lit< tt) refl refl (length_default c.ram c.scrub.first first_in_range)) in
-    let turns = between_facts 0 0 c.scrub_turns (in_range document ScrubTurns 12 0 none (lit< tt) refl refl refl) in
+    let turns = between_facts 0 1000000 c.scrub_turns (in_range document ScrubTurns 12 0 none (lit< tt) refl refl refl) in
     let fetch_ways = between_facts 1 4 c.fetch_cache.ways (in_range document FetchWays 6 1 none (lit< tt) refl refl refl) in
     let load_ways = between_facts 1 4 c.load_cache.ways (in_range document LoadWays 8 1 none (lit< tt) refl refl refl) in
     record {
-      cores = one;
+      cores = cores;
       ram = ram.0;
       least_ram = ram.1;
       most_ram = ram.2;
@@ -135,10 +166,11 @@ of_table document none =
       all_steps = steps.1;
       window = window;
       buffer = buffer;
-      watch = watch_empty document c (kept document c 5 none (lit< tt));
+      few_watched = watched.0;
+      watched = watched.1;
       fetch_cache = record { some_way = fetch_ways.0; few_ways = fetch_ways.1; sets = in_range document FetchSets 7 64 none (lit< tt) refl refl refl };
       load_cache = record { some_way = load_ways.0; few_ways = load_ways.1; sets = in_range document LoadSets 9 64 none (lit< tt) refl refl refl };
       scrub_lines = (eqb-true (c.scrub.first % 32) 0 first.0, scrubbed.0, scrubbed.1);
       scrub_in_ram = scrubbed.2;
-      scrub_turns = omega (arith, turns.1);
+      scrub_turns = turns.1;
     }

@@ -5,6 +5,7 @@ use Rattle.std.specs.Option.{option_map_or}
 use Rattle.lf_model.specs.Start.{is_in_ram}
 use Rattle.run_texts.specs.declared.error.TextWhy.{TextWhy}
 use Rattle.run_texts.specs.declared.error.TextWhy.TheVariants.{Count, Number, Range}
+use Rattle.run_texts.specs.Keys.{is_between}
 use Rattle.run_texts.specs.Text.{decimal, hexadecimal}
 
 -- one such place: the value of a field, None where the field is not of the form, and whether a value is in range
@@ -15,6 +16,10 @@ pub record Column : Type 0 where
 -- a number below a bound
 abbrev pub below : ℕ → Column
 below bound = record { value = decimal; is_in_range = λ n. nat_lt n bound }
+
+-- a number from the least to the most
+abbrev pub between : ℕ → ℕ → Column
+between least most = record { value = decimal; is_in_range = is_between least most }
 
 -- the address of a word in RAM of this size, in bytes
 abbrev pub word_of_ram : ℕ → Column

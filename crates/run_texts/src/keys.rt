@@ -125,7 +125,7 @@ impl Key {
             Key::Buffer => integer("machine.buffer", 4),
             Key::Watch => Row {
                 path: "machine.watch",
-                kind: Kind::Integers { most: 0 },
+                kind: Kind::Integers { most: 64 },
             },
             Key::FetchWays => integer("icache.ways", 1),
             Key::FetchSets => integer("icache.sets", 64),
@@ -143,7 +143,7 @@ impl Key {
         ensures { result ≡ (row self).is_in_range config.now number }
     {
         match self {
-            Key::Cores => (1..=1).contains(&number),
+            Key::Cores => (1..=8).contains(&number),
             Key::Ram => number % 65_536 == 0 && (65_536..=16_777_216).contains(&number),
             Key::Steps => 0 < number && u64::from(config.cores) * u64::from(number) <= MOST_STEPS,
             Key::Window => (1..=1_024).contains(&number),
@@ -155,7 +155,7 @@ impl Key {
             Key::ScrubLength => number % 32 == 0
                 && 0 < number
                 && is_scrubbed_in_ram(config, number),
-            Key::ScrubTurns => (0..=0).contains(&number),
+            Key::ScrubTurns => (0..=1_000_000).contains(&number),
         }
     }
 

@@ -7,7 +7,7 @@ use Rattle.std.specs.Option.{option_map}
 use Rattle.lf_model.proofs.EachLemmas.{each_append, each_second, each_weaker}
 use Rattle.lf_model.proofs.SplitLemmas.{nowhere}
 use Rattle.lf_model.specs.Bus.Status.{AhbStatus}
-use Rattle.lf_model.specs.Execution.{program_order}
+use Rattle.lf_model.specs.ProgramOrder.{program_order}
 use Rattle.lf_model.specs.Once.{OnceAtCore, OnceAtOrder}
 use Rattle.lf_model.specs.Places.{FailsNowhere, FailsNowhereIn}
 use Rattle.lf_model.specs.Records.AllRecords.{AreRecordsOk}

@@ -4,7 +4,7 @@ use Rattle.std.proofs.lemmas.Bool.{cases_Bool, and_parts, eqb-true}
 use Rattle.std.specs.List.{find, filter_map, range_with_len}
 use Rattle.std.specs.List.{AllByRecursion as Each}
 use Rattle.lf_model.proofs.EachLemmas.{each_append}
-use Rattle.lf_model.specs.Execution.{numbered, program_order}
+use Rattle.lf_model.specs.ProgramOrder.{numbered, program_order}
 use Rattle.lf_model.specs.Once.{is_number}
 use Rattle.lf_model.specs.Operation.{of_core, enters}
 use Rattle.lf_model.specs.declared.record.CoreRecord.{CoreRecord}

@@ -15,7 +15,7 @@ use Rattle.lf_model.proofs.EachLemmas.{each_append, each_both, each_weaker}
 use Rattle.lf_model.specs.Bus.Status.{AhbStatus}
 use Rattle.lf_model.specs.Bus.Walk.{scrubber}
 use Rattle.lf_model.specs.Effect.{Access}
-use Rattle.lf_model.specs.Execution.{answers_of}
+use Rattle.lf_model.specs.ProgramOrder.{answers_of}
 use Rattle.lf_model.specs.Ledger.Account.{without_length}
 use Rattle.lf_model.specs.Ledger.Steps.{own_transfers}
 use Rattle.lf_model.specs.Once.{HasMaster}

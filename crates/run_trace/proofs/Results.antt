@@ -9,7 +9,7 @@ use Rattle.std.specs.Option.{option_map}
 use Rattle.lf_model.proofs.EachLemmas.{each_weaker, filter_map_same, filter_none}
 use Rattle.lf_model.specs.Bus.Status.{AhbStatus}
 use Rattle.lf_model.specs.Bus.Words.{word_history}
-use Rattle.lf_model.specs.Execution.{answers_of, program_order}
+use Rattle.lf_model.specs.ProgramOrder.{answers_of, program_order}
 use Rattle.lf_model.specs.Flips.{is_bad_word}
 use Rattle.lf_model.specs.Ledger.Account.{without_length}
 use Rattle.lf_model.specs.Once.{HasMaster, OnceAtTransfer, address_of}

@@ -12,7 +12,7 @@ use Rattle.lf_model.specs.Bus.Replay.{Core, Replay, replay_start, replay_turn, c
 use Rattle.lf_model.specs.Bus.Status.{AhbStatus}
 use Rattle.lf_model.specs.Course.Core.{Ground, given_by, ground_of}
 use Rattle.lf_model.specs.Course.Progress.{Progress}
-use Rattle.lf_model.specs.Execution.{program_order}
+use Rattle.lf_model.specs.ProgramOrder.{program_order}
 use Rattle.lf_model.specs.Ledger.Account.{map_numbered, ground_in, grounds_in, replay_of, without_length}
 use Rattle.lf_model.specs.Ledger.Steps.{own_transfers}
 use Rattle.lf_model.specs.Records.AllRecords.{words_named_by_all}

@@ -8,7 +8,7 @@ use Rattle.std.proofs.lemmas.List.Sums.{sum_by-cons}
 use Rattle.std.proofs.lemmas.List.{take_more, map-append, length-map, length-append, get_or-map, get_or_append_left}
 use Rattle.std.proofs.lemmas.Option.{option_and_then_some, same_Some}
 use Rattle.lf_model.specs.Effect.{Access, Effect, operation_kind}
-use Rattle.lf_model.specs.Execution.{answers_of}
+use Rattle.lf_model.specs.ProgramOrder.{answers_of}
 use Rattle.lf_model.specs.Operation.{kind_reads, kind_made, entry_reads, reads, made}
 use Rattle.lf_model.specs.Run.{Run, operation, with_access, performed, reads_of, answer_to, answered, effect_at_pc, onward, run}
 use Rattle.lf_model.specs.State.{reset}

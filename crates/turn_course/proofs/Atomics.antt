@@ -40,7 +40,7 @@ use Rattle.lf_model.specs.Course.Progress.{Progress}
 use Rattle.lf_model.specs.Course.Syndromes.{syndromes_of, met_bad, has_address, enters_log}
 use Rattle.lf_model.specs.Course.Turned.{own_turn, bad_wanted, turn_trap}
 use Rattle.lf_model.specs.Effect.{AccessKind, Access}
-use Rattle.lf_model.specs.Execution.{answers_of}
+use Rattle.lf_model.specs.ProgramOrder.{answers_of}
 use Rattle.lf_model.specs.Operation.{made}
 use Rattle.lf_model.specs.Records.AllRecords.{number_left}
 use Rattle.lf_model.specs.Records.OwnTurns.{next_effect}

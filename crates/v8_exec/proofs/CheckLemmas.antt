@@ -18,11 +18,6 @@ pub cleared : (c : Checks)
 cleared c e = same c.fetch c.privileged c.illegal c.fp_off c.cp_off c.over c.under c.align c.access c.tag c.zero c.ticc
     e.0 e.1.0 e.1.1.0 e.1.1.1.0 e.1.1.1.1.0 e.1.1.1.1.1.0 e.1.1.1.1.1.1.0 e.1.1.1.1.1.1.1.0 e.1.1.1.1.1.1.1.1.0 e.1.1.1.1.1.1.1.1.1.0 e.1.1.1.1.1.1.1.1.1.1.0 e.1.1.1.1.1.1.1.1.1.1.1
 
--- Ticc
-pub ticc_alone : (clear : Checks) (answer number : Option ℕ) → clear ≡ no_checks
-    → answer ≡ first_trap (traps_in_order (record clear { ticc = number })) → answer ≡ option_or number None
-ticc_alone clear answer number is value = subst (λ (c : Checks). answer ≡ first_trap (traps_in_order (record c { ticc = number }))) is value
-
 -- an access to an alternate space
 pub privileged_access : (clear : Checks) (answer : Option ℕ) (privileged align access : Bool) → clear ≡ no_checks
     → answer ≡ first_trap (traps_in_order (record clear { privileged = privileged; align = align; access = access }))

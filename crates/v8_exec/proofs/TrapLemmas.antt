@@ -1,13 +1,12 @@
 -- What an instruction comes to where it traps, and where it does not.
-use Rattle.std.proofs.Common.{◌≡◌, ℕ, ◌+◌, ◌%◌, ◌^◌, arith, List, Bool, true, false, Option, Some, refl, sym, ◌∙◌, slice_set}
-use Rattle.lf_model.specs.State.{State, cell, register, operand}
-use Rattle.lf_model.specs.Effect.{Effect, with_reads, sum_of_operands}
+use Rattle.std.proofs.Common.{◌≡◌, ℕ, List, Bool, true, false, Option, Some, refl, sym, ◌∙◌, slice_set}
+use Rattle.lf_model.specs.State.{State, cell}
+use Rattle.lf_model.specs.Effect.{Effect, with_reads}
 use Rattle.lf_model.specs.Traps.{unless_trap, trap_effect, entered, handler_window}
 use Rattle.lf_model.specs.Run.{Run}
 use Rattle.lf_model.specs.Step.{Seen, Parts, state_of, run_seen, run_after}
 use Rattle.lf_model.specs.declared.control.Arch.{Arch}
 use Rattle.lf_model.specs.declared.control.Ctl.{Ctl}
-use Rattle.lf_model.specs.declared.instruction.Src.{Src}
 use Rattle.lf_model.specs.declared.step.Did.{Did}
 use Rattle.lf_model.specs.declared.step.Did.TheVariants.{Retired, Turned, Need, Halt, Stop}
 use Rattle.v8_exec.specs.Frame.{DoesAfterReads}
@@ -46,6 +45,3 @@ reads_apart core parts (Stop tt_ place syn) registers e r = refl
 pub trap_does : (core : ℕ) (parts : Parts) (trap : Option ℕ) (tt_ : ℕ) (s : State) (e : Effect) (did : Did) (old new : Run)
     → trap ≡ Some tt_ → DoesAfterReads core parts (trap_effect tt_ s) did old new → DoesAfterReads core parts (unless_trap trap s e) did old new
 trap_does core parts trap tt_ s e did old new is does = rw is (record { answer = does.answer; leaves = does.leaves ∙ sym (reads_apart core parts did e.reads (trap_effect tt_ s) old) })
-
-pub sum_read : (s : State) (rs1 : ℕ) (src : Src) (x y : ℕ) → x ≡ register s rs1 → y ≡ operand s src → (x + y) % 2 ^ 32 ≡ sum_of_operands s rs1 src
-sum_read s rs1 src x y first second = rw first (rw second (omega arith))

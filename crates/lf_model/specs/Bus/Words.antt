@@ -7,7 +7,7 @@ use Rattle.lf_model.specs.Course.Syndromes.{has_address, packed}
 use Rattle.lf_model.specs.Flips.{How, Moment, is_bad_word, is_fixed_word, syndrome}
 use Rattle.lf_model.specs.Flips.How.{Whole, ByPartStore, ByAtomic, ByFix}
 use Rattle.lf_model.specs.Flips.Moment.{Struck, Written, Named}
-use Rattle.lf_model.specs.Strikes.{numbered_flips}
+use Rattle.lf_model.specs.NumberedFlips.{numbered_flips}
 use Rattle.lf_model.specs.declared.bus.Transfer.{Transfer}
 use Rattle.lf_model.specs.declared.bus.TurnKind.{TurnKind}
 use Rattle.lf_model.specs.declared.bus.TurnKind.TheVariants.{Fetch, Load, Store, Atomic, Snoop, Look, Fix}

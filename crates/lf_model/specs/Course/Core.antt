@@ -1,9 +1,9 @@
 -- What the course of a core goes by: the setup, the core's number, the numbers that its operations read and the stores that it
 -- makes, and how and when it ends.
 use Rattle.std.specs.Prelude.{ℕ, ◌==◌, ◌&&◌, ◌||◌, Bool, true, false, List, filter, map}
-use Rattle.lf_model.specs.Execution.{answers_of}
+use Rattle.lf_model.specs.ProgramOrder.{answers_of}
 use Rattle.lf_model.specs.Operation.{made}
-use Rattle.lf_model.specs.Strikes.{numbered_flips}
+use Rattle.lf_model.specs.NumberedFlips.{numbered_flips}
 use Rattle.lf_model.specs.Traps.{instruction_access_exception, data_access_exception}
 use Rattle.lf_model.specs.declared.bus.Entry.{Entry}
 use Rattle.lf_model.specs.declared.bus.OpKind.{OpKind}

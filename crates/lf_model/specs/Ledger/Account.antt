@@ -10,7 +10,7 @@ use Rattle.lf_model.specs.Course.Core.{Ground, given_by, ground_of}
 use Rattle.lf_model.specs.Course.Outcome.{Need}
 use Rattle.lf_model.specs.Course.Outcome.Need.{Turn}
 use Rattle.lf_model.specs.Course.Progress.{Completion}
-use Rattle.lf_model.specs.Execution.{program_order}
+use Rattle.lf_model.specs.ProgramOrder.{program_order}
 use Rattle.lf_model.specs.Flips.{is_bad_word}
 use Rattle.lf_model.specs.Ledger.CoreAccount.{CoreAccount, core_by_course, core_as_reported}
 use Rattle.lf_model.specs.Ledger.FlipFate.{flip_fates}

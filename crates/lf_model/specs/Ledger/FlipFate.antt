@@ -8,7 +8,7 @@ use Rattle.lf_model.specs.Caches.Cache.{Cache, slot_at}
 use Rattle.lf_model.specs.Course.Arrays.{Arrays}
 use Rattle.lf_model.specs.Fates.{fate_of}
 use Rattle.lf_model.specs.Flips.{Moment, word_budget, byte_budget}
-use Rattle.lf_model.specs.Strikes.{numbered_flips}
+use Rattle.lf_model.specs.NumberedFlips.{numbered_flips}
 use Rattle.lf_model.specs.declared.flip.Flip.{Flip}
 use Rattle.lf_model.specs.declared.flip.Flip.TheVariants.{Mem, Reg, Tag, Line}
 use Rattle.lf_model.specs.declared.trace.Fate.{Fate}

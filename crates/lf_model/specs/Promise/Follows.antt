@@ -3,7 +3,7 @@
 use Rattle.std.specs.Prelude.{ℕ, zero, suc, ◌≡◌, ◌+◌, List, [], length, map, filter, fold, sum}
 use Rattle.std.specs.List.{range_with_len}
 use Rattle.lf_model.specs.Course.Core.{is_store}
-use Rattle.lf_model.specs.Execution.{program_order}
+use Rattle.lf_model.specs.ProgramOrder.{program_order}
 use Rattle.lf_model.specs.Ledger.Account.{map_numbered}
 use Rattle.lf_model.specs.Ledger.Steps.{own_transfers}
 use Rattle.lf_model.specs.Promise.Turns.{CoreLeft, Actors, TurnMade, turn_of_transfer, event_made}

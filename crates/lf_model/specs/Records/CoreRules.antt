@@ -5,7 +5,7 @@ use Rattle.std.specs.Prelude.{ℕ, ◌≡◌, ◌≤◌, ◌<◌, ◌+◌, List,
 use Rattle.lf_model.specs.Course.Core.{Ground, given_by, ground_of}
 use Rattle.lf_model.specs.Course.Course.{course, finished}
 use Rattle.lf_model.specs.Course.Progress.{Progress}
-use Rattle.lf_model.specs.Execution.{answers_of, program_order}
+use Rattle.lf_model.specs.ProgramOrder.{answers_of, program_order}
 use Rattle.lf_model.specs.Operation.{made, is_lost}
 use Rattle.lf_model.specs.Results.{halt_of, idle_steps, is_in_steps, IsEnd, LosesStores, ShowsRegisters}
 use Rattle.lf_model.specs.Run.{run}

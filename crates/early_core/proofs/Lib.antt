@@ -1,6 +1,0 @@
-pub mod HistoryLemmas
-pub mod PlanLemmas
-mod FileLemmas
-mod KeepLemmas
-mod InsideLemmas
-mod ToldLemmas

@@ -1,5 +1,0 @@
-pub mod Reading
-pub mod Calculating
-pub mod Accesses
-pub mod Frame
-pub mod Returning

@@ -1,4 +1,0 @@
-pub mod LineLemmas
-pub mod LoadLemmas
-pub mod PartLemmas
-pub mod FixLemmas

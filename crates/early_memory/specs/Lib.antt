@@ -1,4 +1,0 @@
-pub mod Cells
-pub mod Memory
-pub mod Parts
-pub mod Fixing

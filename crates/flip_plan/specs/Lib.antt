@@ -1,4 +1,0 @@
-pub mod Arrays
-pub mod Plan
-pub mod Striking
-pub mod Telling
