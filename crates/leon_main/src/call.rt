@@ -4,7 +4,11 @@ ghost use Rattle.edac_code.specs.Code.{check_bits};
 ghost use Rattle.lf_io.specs.Count.{Rose};
 ghost use Rattle.lf_io.specs.Held.{FileMap};
 ghost use Rattle.lf_io.specs.Taken.{Takes, TakesPrefix};
+ghost use Rattle.lf_model.specs.Promise.NeverStops.{NeverTwoTurned, NeverStops};
+ghost use Rattle.lf_model.specs.Promise.Played.{IsPlayedBy};
 ghost use Rattle.lf_model.specs.declared.setup.Event.{Event};
+ghost use Rattle.lf_model.specs.declared.setup.Setup.{Setup};
+ghost use Rattle.lf_model.specs.declared.trace.Trace.{Trace};
 ghost use Rattle.machine_play.specs.Playable.{IsPlayable};
 ghost use Rattle.leon_main.specs.Accepted.{AreParts};
 ghost use Rattle.leon_main.specs.Call.{IsOutcome, IsAnswered, IsCutOff, IsFaultless, Tells, Decides, IsSettled, status_of, text_of};
@@ -132,6 +136,10 @@ pub fn plain_call<F: Files, K: Sink>(
     ensures decides { (held : FileMap) → F.held files.old ≡ Some held
         → IsFaultless (map string_bytes words.now) (F.faults files.old) (F.faults files.new)
         → Decides (map string_bytes words.now) held (K.taken out.old) (K.taken out.new) result }
+
+    // A run in which no word of memory and no register cell ever has two turned bits has no core that an error trap stops.
+    ensures never_stops { (setup : Setup) (events : List Event) (trace : Trace) → IsPlayedBy setup events trace
+        → NeverTwoTurned setup trace → NeverStops setup trace }
 
     // Files either spell one setup and one schedule or have one first refusal.
     ensures settled { (names : FileNames) (held : FileMap) → IsSettled names held }
