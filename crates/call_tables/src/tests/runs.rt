@@ -15,6 +15,7 @@ struct Row {
     outs: &'static str,
     psr: &'static str,
     pcs: &'static str,
+    ahb: &'static str,
     transfers: &'static str,
     order: &'static str,
     flips: &'static str,
@@ -28,13 +29,14 @@ const WRITES: Row = Row {
     words: &OUTPUT,
     script: "",
     status: 0,
-    end: "halt 80 4 4",
+    end: "halt 80 4 5",
     out: "41",
     globals: "00000000 80000000 00000000 00000000 00000000 00000000 00000000 00000000",
     outs: "00000041 00000000 00000000 00000000 00000000 00000000 00000000 00000000",
     psr: "F3000080",
     pcs: "4000000C 40000010",
-    transfers: "0",
+    ahb: "00000000 00000000",
+    transfers: "1\nt 0 0 0 fetch absent 40000000 0 0000000000000000",
     order: "0",
     flips: "0",
 };
@@ -48,13 +50,13 @@ const LOADS: Row = Row {
         0xd020_a100,
         0x91d0_2000,
     ],
-    end: "halt 80 5 6",
+    end: "halt 80 5 7",
     out: "00",
     globals: "00000000 40001000 80000000 00000000 00000000 00000000 00000000 00000000",
     outs: ZEROS,
     pcs: "40000010 40000014",
-    transfers: "1\nt 0 0 2 load absent 40001000 0 0000000000000000",
-    order: "1\nL 0 0 3 40001000 00000000 0",
+    transfers: "2\nt 0 0 0 fetch absent 40000000 0 0000000000000000\nt 1 0 3 load absent 40001000 0 0000000000000000",
+    order: "1\nL 0 0 4 40001000 00000000 0",
     ..WRITES
 };
 
@@ -63,26 +65,28 @@ static ROWS: [Row; 10] = [
     WRITES,
     // One flip is corrected.
     Row {
-        script: "mem 0 40001000 0\n",
-        transfers: "1\nt 0 0 2 load absent 40001000 0 4F00000000000000",
+        script: "mem 1 40001000 0\n",
+        ahb: "40001000 00000302",
+        transfers: "2\nt 0 0 0 fetch absent 40000000 0 0000000000000000\nt 1 0 3 load absent 40001000 0 4F00000000000000",
         flips: "1\nf 0 dormant",
         ..LOADS
     },
     // Two flips stop the core.
     Row {
-        script: "mem 0 40001000 0\nmem 0 40001000 1\n",
+        script: "mem 1 40001000 0\nmem 1 40001000 1\n",
         status: 10,
-        end: "stop 09 2 3 0 05",
+        end: "stop 09 2 4 1 05",
         out: "-",
         pcs: "40000008 4000000C",
-        transfers: "1\nt 0 0 2 load absent 40001000 0 0500000000000000",
+        ahb: "40001000 00000102",
+        transfers: "2\nt 0 0 0 fetch absent 40000000 0 0000000000000000\nt 1 0 3 load absent 40001000 0 0500000000000000",
         order: "0",
         flips: "2\nf 0 stopped\nf 1 stopped",
         ..LOADS
     },
     // One bit flipped twice reads clean, and a third flip is declined.
     Row {
-        script: "mem 0 40001000 0\nmem 0 40001000 0\nmem 0 40001000 2\n",
+        script: "mem 1 40001000 0\nmem 1 40001000 0\nmem 1 40001000 2\n",
         flips: "3\nf 0 dormant\nf 1 dormant\nf 2 declined",
         ..LOADS
     },
@@ -97,7 +101,7 @@ static ROWS: [Row; 10] = [
             0x81e0_0000,
             0x81e0_0000,
         ],
-        end: "halt 05 7 7",
+        end: "halt 05 7 8",
         out: "-",
         globals: ZEROS,
         outs: ZEROS,
@@ -115,7 +119,7 @@ static ROWS: [Row; 10] = [
     Row {
         script: "reg 0 2 1 0\nreg 0 2 1 1\n",
         status: 10,
-        end: "stop 20 2 3 1 05",
+        end: "stop 20 2 4 1 05",
         out: "-",
         globals: "00000000 -------- 00000000 00000000 00000000 00000000 00000000 00000000",
         pcs: "40000008 4000000C",
@@ -132,7 +136,7 @@ static ROWS: [Row; 10] = [
     // UDIV by 0.
     Row {
         words: &[0x8270_0000, 0x91d0_2000],
-        end: "halt 2A 1 1",
+        end: "halt 2A 1 2",
         out: "-",
         globals: ZEROS,
         outs: ZEROS,
@@ -142,7 +146,7 @@ static ROWS: [Row; 10] = [
     // LDD from a multiple of 4 alone.
     Row {
         words: &[0x0310_0004, 0xd018_6004, 0x91d0_2000],
-        end: "halt 07 2 2",
+        end: "halt 07 2 3",
         out: "-",
         globals: "00000000 40001000 00000000 00000000 00000000 00000000 00000000 00000000",
         outs: ZEROS,
@@ -162,8 +166,8 @@ fn report(alloc: Global, row: &Row) -> Result<String, AllocError> {
         row.globals, row.outs
     )?;
     let control = format!(in alloc;
-        "ctl 0 {} 00000002 00000000 00000000 {}\nparity 0 0 0 0 0\nahb 00000000 00000000\n",
-        row.psr, row.pcs
+        "ctl 0 {} 00000002 00000000 00000000 {}\nparity 0 0 0 0 0\nahb {}\n",
+        row.psr, row.pcs, row.ahb
     )?;
     format!(in alloc;
         "{core}{registers}{control}transfers {}\norder {}\nflips {}\nwatch 0\nend\n",
