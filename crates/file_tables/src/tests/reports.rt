@@ -6,7 +6,7 @@ use report_text::write_report;
 use std::alloc::{AllocError, Global};
 use std::test::Fail;
 
-/// SETHI and OR make a word, ST writes it to the output word, and Ticc with traps disabled halts the core.
+/// One core, and no transfer, operation, flip or watched word.
 const OUTPUT: &str = "leon3ft report 1
 cores 1
 core 0 halt 80 4 4
