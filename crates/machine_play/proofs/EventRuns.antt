@@ -1,5 +1,5 @@
 -- Several events one after another: an event so many times, the events of a schedule, a round, and rounds until all are over.
-use Rattle.std.proofs.Common.{◌≡◌, ◌∙◌, ◌+◌, ◌<◌, ◌≤◌, ◌++◌, ◌⊎◌, ℕ, suc, Bool, true, false, List, [], ◌∷◌, Some, IfSome, length, take, fold, slice_get, refl, ap, sym, subst, arith, inl, inr, add-one}
+use Rattle.std.proofs.Common.{◌≡◌, ◌∙◌, ◌+◌, ◌<◌, ◌≤◌, ◌++◌, ◌⊎◌, ℕ, zero, suc, Bool, true, false, List, [], ◌∷◌, Some, IfSome, length, take, fold, slice_get, refl, ap, sym, subst, arith, inl, inr, add-one}
 use Rattle.std.proofs.lemmas.Bool.{and_from, cases_lt}
 use Rattle.std.proofs.lemmas.List.{take_all, take_more}
 use Rattle.std.proofs.lemmas.List.Sums.{fold_push}
@@ -45,6 +45,17 @@ moved_as f g a b same moved = record {
 pub times_next : (n : ℕ) (e : Event) (a b c : MachineValue) → IsMoved (event_times n e) a b → IsMoved (λ x. event_made e.core x e.actor) b c → IsMoved (event_times (n + 1) e) a c
 times_next n e a b c before next = moved_as (λ x. event_made e.core (event_times n e x) e.actor) (event_times (n + 1) e) a c (λ x. sym (times_more n e x))
     (moved_then (event_times n e) (λ x. event_made e.core x e.actor) a b c before next)
+
+-- one that makes nothing makes nothing so many times more
+pub times_passed : (n k : ℕ) (e : Event) (a b : MachineValue) → IsMoved (event_times n e) a b → IsMoved (λ x. event_made e.core x e.actor) b b → IsMoved (event_times (n + k) e) a b
+times_passed n zero e a b before passed = subst (λ (j : ℕ). IsMoved (event_times j e) a b) (none_more n) before
+  where
+    none_more : (i : ℕ) → i ≡ i + 0
+    none_more i = omega arith
+times_passed n (suc k) e a b before passed = subst (λ (j : ℕ). IsMoved (event_times j e) a b) (one_more n k) (times_next (n + k) e a b b (times_passed n k e a b before passed) passed)
+  where
+    one_more : (i j : ℕ) → i + j + 1 ≡ i + suc j
+    one_more i j = omega arith
 
 -- ---- event by event
 

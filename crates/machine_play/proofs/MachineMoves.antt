@@ -1,7 +1,8 @@
 -- What an event makes of one core and of the bus, it makes of the machine: it stays a machine, and comes to where the schedule's
 -- definitions bring all actors.
 use Rattle.leon_core.specs.Moves.{store_steps}
-use Rattle.std.proofs.Common.{◌≡◌, ◌∙◌, ◌<◌, ◌≤◌, ℕ, Bool, true, false, List, Some, None, IfSome, length, slice_get, slice_set, refl, ap, sym, subst, arith, inl, inr}
+use Rattle.std.proofs.Common.{◌≡◌, ◌∙◌, ◌<◌, ◌≤◌, ℕ, zero, suc, Bool, true, false, not, nat_lt, List, Some, None, IfSome, length, slice_get, slice_set, refl, ap, sym, subst, arith, inl, inr}
+use Rattle.std.proofs.lemmas.Bool.{lt-ltb}
 use Rattle.std.specs.List.{AllByRecursion as Each}
 use Rattle.ahb_bus.specs.BusState.{BusState}
 use Rattle.core_parts.specs.CoreValue.{CoreValue}
@@ -26,6 +27,18 @@ use Rattle.machine_play.proofs.OneCoreMoves.{may_step}
 pub stays_moved : (m : MachineValue) (events : Actors → Actors) → IsSound m
     → ((before : Actors → Actors) → ComesTo m.bus.setup before m → ComesTo m.bus.setup (λ a. events (before a)) m) → IsMoved events m m
 stays_moved m events is makes = record { setup = refl; machine = is; makes = makes }
+
+-- a core that says so has no store that waits
+pub none_waits : (v : CoreValue) (waits : Bool) → waits ≡ nat_lt 0 (length v.ports.waiting) → not waits ≡ true → length v.ports.waiting ≡ 0
+none_waits v waits is none = of (length v.ports.waiting) waits is none
+  where
+    of : (n : ℕ) (b : Bool) → b ≡ nat_lt 0 n → not b ≡ true → n ≡ 0
+    of zero b e h = refl
+    of (suc n) b e h = absurd (clash b (e ∙ lt-ltb 0 (suc n) (omega arith)) h)
+      where
+        clash : (b : Bool) → b ≡ true → not b ≡ true → ⊥
+        clash true e h = cc
+        clash false e h = cc
 
 module _ (m : MachineValue) (is : IsSound m) (n : ℕ) where
   -- there is no such core
@@ -54,6 +67,17 @@ module _ (m : MachineValue) (is : IsSound m) (n : ℕ) (old : CoreValue) (there 
   over : is_ended (state_of_core old) ≡ true → IsCoreOver n m
   over ended = subst (λ o. IfSome o (λ (v : CoreValue). is_ended (state_of_core v) ≡ true)) (sym there) ended
 
+  -- ---- an event of it that makes nothing, and leaves all as it is
+
+  pub ended_moved : is_ended (state_of_core old) ≡ true → IsMoved (λ a. event_made n a Core) m m
+  ended_moved ended = stays_moved m (λ a. event_made n a Core) is (λ before comes. ended_comes m.bus.setup before m (are_made m.bus.setup m is) comes n old there ended)
+
+  pub ended_drained : is_ended (state_of_core old) ≡ true → IsMoved (λ a. event_made n a Drain) m m
+  ended_drained ended = stays_moved m (λ a. event_made n a Drain) is (λ before comes. ended_drain_comes m.bus.setup before m (are_made m.bus.setup m is) comes n old there ended)
+
+  pub none_waits_drained : length old.ports.waiting ≡ 0 → IsMoved (λ a. event_made n a Drain) m m
+  none_waits_drained none = stays_moved m (λ a. event_made n a Drain) is (λ before comes. none_waits_comes m.bus.setup before m (are_made m.bus.setup m is) comes n old there none)
+
   module _ (new : CoreValue) (bus : BusState) where
     abbrev then_ : MachineValue
     then_ = with_core_turn n new bus m
@@ -65,9 +89,8 @@ module _ (m : MachineValue) (is : IsSound m) (n : ℕ) (old : CoreValue) (there 
         ap (λ (b : BusState). with_core_turn n new b m) s.bus
         ∙ ap (λ (vs : List CoreValue). record m { cores = vs }) (ap (slice_set m.cores n) s.core ∙ set_same m.cores n old there)
 
-    stays : (events : Actors → Actors) → Stays old new m.bus bus
-        → ((before : Actors → Actors) → ComesTo m.bus.setup before m → ComesTo m.bus.setup (λ a. events (before a)) m) → IsMoved events m (with_core_turn n new bus m)
-    stays events s makes = subst (IsMoved events m) (sym (stayed s)) (stays_moved m events is makes)
+    stays : (events : Actors → Actors) → Stays old new m.bus bus → IsMoved events m m → IsMoved events m (with_core_turn n new bus m)
+    stays events s moved = subst (IsMoved events m) (sym (stayed s)) moved
 
     -- ---- a step without a turn
 
@@ -142,7 +165,7 @@ module _ (m : MachineValue) (is : IsSound m) (n : ℕ) (old : CoreValue) (there 
     core_moved (inl (inl s)) = alone_moved s
     core_moved (inl (inr s)) = step_moved s
     core_moved (inr (inl d)) = last_moved d
-    core_moved (inr (inr s)) = stays (λ a. event_made n a Core) s.1 (λ before comes. ended_comes m.bus.setup before m (are_made m.bus.setup m is) comes n old there s.0)
+    core_moved (inr (inr s)) = stays (λ a. event_made n a Core) s.1 (ended_moved s.0)
 
     pub core_advances : MovesCore old new m.bus bus → Advances (IsCoreOver n m) m (with_core_turn n new bus m)
     core_advances (inl (inl s)) = alone_advances s
@@ -153,5 +176,5 @@ module _ (m : MachineValue) (is : IsSound m) (n : ℕ) (old : CoreValue) (there 
     pub core_drained : DrainsCore old new m.bus bus → IsMoved (λ a. event_made n a Drain) m (with_core_turn n new bus m)
     core_drained (inl (some, inl s)) = scheduled_moved s some
     core_drained (inl (some, inr d)) = last_drained d some
-    core_drained (inr (inl none, s)) = stays (λ a. event_made n a Drain) s (λ before comes. none_waits_comes m.bus.setup before m (are_made m.bus.setup m is) comes n old there none)
-    core_drained (inr (inr ended, s)) = stays (λ a. event_made n a Drain) s (λ before comes. ended_drain_comes m.bus.setup before m (are_made m.bus.setup m is) comes n old there ended)
+    core_drained (inr (inl none, s)) = stays (λ a. event_made n a Drain) s (none_waits_drained none)
+    core_drained (inr (inr ended, s)) = stays (λ a. event_made n a Drain) s (ended_drained ended)

@@ -7,7 +7,7 @@ ghost use Rattle.lf_model.specs.declared.setup.Actor.TheVariants as actors;
 ghost use Rattle.machine_play.specs.Moved.{IsSound, IsMoved, GoesRound, round_of, IsCoreOver, scrubber_over, is_over, Advances};
 ghost use Rattle.machine_play.specs.OneCore.{IsBeside, StepsWithTurn, DrainsAtEnd, MakesStep, MovesCore, DrainsCore};
 
-use crate::machine::Machine;
+use crate::machine::{has_ended, Machine};
 use ahb_bus::Bus;
 use core_parts::CoreState;
 use leon_core::Core;
@@ -118,12 +118,51 @@ impl Machine {
         }
     }
 
-    /// An event of a schedule, as often as it counts.
+    /// An event of core `number` makes nothing: there is no such core, or it has ended.
+    fn core_is_over(&self, number: usize) -> bool
+        requires { IsSound self.now }
+        ensures { result ≡ true → IsMoved (λ a. event_made number a actors.Core) self.now self.now }
+    {
+        if number < self.cores.len() {
+            has_ended(&self.cores[number])
+        } else {
+            true
+        }
+    }
+
+    /// A drain of core `number` makes nothing: there is no such core, it has ended, or no store waits in it.
+    fn none_drains(&self, number: usize) -> bool
+        requires { IsSound self.now }
+        ensures { result ≡ true → IsMoved (λ a. event_made number a actors.Drain) self.now self.now }
+    {
+        if number < self.cores.len() {
+            has_ended(&self.cores[number]) || !self.cores[number].waiting()
+        } else {
+            true
+        }
+    }
+
+    /// One event of an actor, of core `number` if it is a core, makes nothing here, and neither do any number of them.
+    fn passes_over(&self, actor: Actor, number: u32) -> bool
+        requires { IsSound self.now }
+        ensures { result ≡ true → IsMoved (λ a. event_made number a actor) self.now self.now }
+    {
+        match actor {
+            Actor::Core => self.core_is_over(number as usize),
+            Actor::Drain => self.none_drains(number as usize),
+            Actor::Scrub => self.scrubber.turns_left() == 0,
+        }
+    }
+
+    /// An event of a schedule, as often as it counts. Once it is passed over, so is all that is left of the count.
     fn scheduled(&mut self, e: &Event)
         requires { IsSound self.old }
         ensures { IsMoved (λ a. scheduled a e.now) self.old self.new }
     {
         for _ in 0..e.count {
+            if self.passes_over(e.actor, e.core) {
+                return;
+            }
             self.event(e.actor, e.core);
         }
     }

@@ -35,7 +35,7 @@ impl Model for Machine {
 }
 
 /// The core has ended.
-fn has_ended(core: &Core) -> bool
+pub(crate) fn has_ended(core: &Core) -> bool
     ensures { result ≡ core_ended core.now }
 {
     match core.state() {
