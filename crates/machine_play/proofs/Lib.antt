@@ -26,3 +26,4 @@ pub mod Played
 pub mod AllOver
 pub mod Watching
 pub mod Traced
+pub mod Bounded

@@ -11,3 +11,4 @@ pub mod Moved
 pub mod Ending
 pub mod MachineInside
 pub mod OneCore
+pub mod Bounds

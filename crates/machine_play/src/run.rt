@@ -3,6 +3,7 @@ ghost use Rattle.lf_model.specs.Ledger.Rule.{KeepsLedger};
 ghost use Rattle.lf_model.specs.Promise.Follows.{Follows};
 ghost use Rattle.lf_model.specs.Promise.Headline.{Headline};
 ghost use Rattle.lf_model.specs.Promise.Regular.{IsRegular};
+ghost use Rattle.machine_play.specs.Bounds.{AllBounded};
 ghost use Rattle.machine_play.specs.Playable.{IsPlayable};
 
 use crate::machine::Machine;
@@ -29,6 +30,9 @@ pub fn play(alloc: Global, s: &Setup, events: &[Event]) -> Result<Trace, AllocEr
 
     // Its transfers come in the order of the schedule.
     ensures follows { IfOk result (Follows s.now events.now) }
+
+    // Each core makes as many steps at most as the setup allows, and then at most eight drains.
+    ensures bounded { IfOk result (AllBounded s.now) }
 
     // A report can show it.
     ensures regular { IfOk result IsRegular }
