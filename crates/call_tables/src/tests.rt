@@ -4,6 +4,7 @@ use std::alloc::{AllocError, Global};
 use std::process::Abort;
 
 mod calls;
+mod images;
 mod runs;
 
 /// A call that runs the image of a test, with a configuration, a script and a schedule.

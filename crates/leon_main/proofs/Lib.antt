@@ -8,3 +8,5 @@ pub mod GivenLemmas
 pub mod LineLengths
 pub mod MemoryLemmas
 pub mod PlayableLemmas
+pub mod NumberLemmas
+pub mod ImageLemmas

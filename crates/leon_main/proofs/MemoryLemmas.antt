@@ -5,7 +5,7 @@ use Rattle.leon_main.specs.Call.{status_of, text_of}
 use Rattle.leon_main.specs.Ends.{is_stop, is_limit, some_end, status_of_cores}
 use Rattle.leon_main.specs.Faults.{line_of}
 use Rattle.leon_main.specs.declared.answer.Answer.{Answer}
-use Rattle.leon_main.specs.declared.answer.Answer.TheVariants.{Report, CheckBits}
+use Rattle.leon_main.specs.declared.answer.Answer.TheVariants.{Report, ImageFile, CheckBits}
 use Rattle.leon_main.specs.declared.fault.Fault.{Fault}
 use Rattle.leon_main.specs.declared.fault.Fault.TheVariants.{Usage, Unread, TooLong, NotToml, UnknownKey, WrongKind, OutOfRange, BadImage, BadScript, BadSchedule, Memory}
 
@@ -16,6 +16,7 @@ not_seven false false e = omega (arith, e)
 
 pub memory_line : (outcome : Result Answer Fault) → status_of outcome ≡ 7 → text_of outcome ≡ line_of Memory
 memory_line (Ok (Report trace)) e = absurd (not_seven (some_end is_stop trace.cores) (some_end is_limit trace.cores) e)
+memory_line (Ok (ImageFile file)) e = absurd (omega (arith, e))
 memory_line (Ok (CheckBits bits)) e = absurd (omega (arith, e))
 memory_line (Err Memory) e = refl
 memory_line (Err Usage) e = absurd (omega (arith, e))

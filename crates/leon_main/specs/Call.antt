@@ -1,6 +1,7 @@
 -- What the program answers to a call: why each answer comes, its exit status, and its text.
-use Rattle.std.specs.Prelude.{ℕ, ◌≡◌, ◌⊎◌, List, Option, None, IfSome, Result, Ok, Err}
+use Rattle.std.specs.Prelude.{ℕ, ◌≡◌, ◌⊎◌, ⊤, List, Option, None, Some, IfSome, Result, Ok, Err}
 use Rattle.edac_code.specs.Code.{check_bits}
+use Rattle.elf_image.specs.Written.{written}
 use Rattle.lf_io.specs.Count.{Rose}
 use Rattle.lf_io.specs.Held.{FileMap}
 use Rattle.lf_io.specs.Taken.{Takes, TakesPrefix}
@@ -16,12 +17,13 @@ use Rattle.leon_main.specs.Ends.{status_of_cores}
 use Rattle.leon_main.specs.Faults as faults
 use Rattle.leon_main.specs.Files.{name_in}
 use Rattle.leon_main.specs.Reading.{IsCause}
-use Rattle.leon_main.specs.Words.{FileNames, request_of, AsksToPlay, AsksForCodes}
+use Rattle.leon_main.specs.Words.{FileNames, Request, Play, Generate, Codes, request_of, AsksToPlay, AsksToGenerate, AsksForCodes}
 use Rattle.leon_main.specs.declared.answer.Answer.{Answer}
-use Rattle.leon_main.specs.declared.answer.Answer.TheVariants.{Report, CheckBits}
+use Rattle.leon_main.specs.declared.answer.Answer.TheVariants.{Report, ImageFile, CheckBits}
 use Rattle.leon_main.specs.declared.fault.Fault.{Fault}
 use Rattle.leon_main.specs.declared.fault.Fault.TheVariants.{Usage, Memory}
 use Rattle.leon_main.specs.declared.run_file.RunFile.{RunFile}
+use Rattle.work_gen.specs.Layout.{generated_image}
 
 -- ---- why each answer comes
 
@@ -36,13 +38,26 @@ pub record IsReportOf (words : List (List ℕ)) (held : Option FileMap) (trace :
   pub playable : IsPlayable setup
   pub played : IsPlayedBy setup events trace
 
+-- the file of the image of a generated program
+abbrev pub generated_file : ℕ → ℕ → List ℕ
+generated_file start size = written (generated_image start size)
+
 abbrev pub IsAnswer : List (List ℕ) → Option FileMap → Answer → Type 0
 IsAnswer words held (Report trace) = IsReportOf words held trace
+IsAnswer words held (ImageFile file) = (start size : ℕ) × AsksToGenerate words start size × (file ≡ generated_file start size)
 IsAnswer words held (CheckBits bits) = (word : ℕ) × AsksForCodes words word × (bits ≡ check_bits word)
 
--- a fault: the words are not taken, or they ask for a run, of whose files it is told
+-- what takes memory: a run, and the image of a program
+abbrev pub TakesMemory : Request → Type 0
+TakesMemory (Play names) = ⊤
+TakesMemory (Generate start size) = ⊤
+TakesMemory (Codes word) = ⊥
+
+-- a fault: the words are not taken; they ask for what takes memory, and there was none; or they ask for a run, of whose files
+-- it is told
 abbrev pub IsFault : List (List ℕ) → Option FileMap → (List ℕ → ℕ) → (List ℕ → ℕ) → Fault → Type 0
 IsFault words held before after Usage = request_of words ≡ None
+IsFault words held before after Memory = (request : Request) × (request_of words ≡ Some request) × TakesMemory request
 IsFault words held before after fault =
     (names : FileNames) × AsksToPlay words names × IsCause names held before after fault
 
@@ -56,12 +71,14 @@ IsOutcome words held before after (Err fault) = IsFault words held before after 
 
 abbrev pub status_of : Result Answer Fault → ℕ
 status_of (Ok (Report trace)) = status_of_cores trace.cores
+status_of (Ok (ImageFile file)) = 0
 status_of (Ok (CheckBits bits)) = 0
 status_of (Err fault) = faults.status_of fault
 
--- the report, or one line
+-- the report, the bytes of the image, or one line
 abbrev pub text_of : Result Answer Fault → List ℕ
 text_of (Ok (Report trace)) = report trace
+text_of (Ok (ImageFile file)) = file
 text_of (Ok (CheckBits bits)) = hex_field line_feed 2 bits
 text_of (Err fault) = faults.line_of fault
 
@@ -107,11 +124,16 @@ Reports status old new setup events =
     ((trace : Trace) × IsPlayedBy setup events trace × (status ≡ status_of_cores trace.cores) × Takes old new (report trace))
     ⊎ IsHindered status
 
--- words and told files decide the answer, in these four cases
+-- the whole file of the image of a program, unless the call was hindered
+abbrev pub Generates : ℕ → Option (List ℕ) → Option (List ℕ) → ℕ → ℕ → Type 0
+Generates status old new start size = ((status ≡ 0) × Takes old new (generated_file start size)) ⊎ IsHindered status
+
+-- words and told files decide the answer, in these five cases
 pub record Decides (words : List (List ℕ)) (files : FileMap) (old new : Option (List ℕ)) (status : ℕ) : Type 0 where
   pub usage : request_of words ≡ None → Tells status old new 2 (faults.line_of Usage)
   pub check_bits : (word : ℕ) → AsksForCodes words word
       → Tells status old new 0 (hex_field line_feed 2 (check_bits word))
+  pub generated : (start size : ℕ) → AsksToGenerate words start size → Generates status old new start size
   pub refused : (names : FileNames) (fault : Fault) → AsksToPlay words names → IsFirstRefusal names files fault
       → Refuses status old new fault
   pub played : (names : FileNames) (setup : Setup) (events : List Event) → AsksToPlay words names

@@ -1,8 +1,9 @@
 -- The words of a call: the program's name, a command, and what the command is given.
-use Rattle.std.specs.Prelude.{ℕ, ◌≡◌, Bool, ◌||◌, nat_eq, List, [], ◌∷◌, codes, Option, Some, None, option_map, if◌then◌else◌}
+use Rattle.std.specs.Prelude.{ℕ, ◌≡◌, ◌≤◌, ◌^◌, ⊤, Bool, ◌&&◌, ◌||◌, nat_eq, nat_le, nat_lt, List, [], ◌∷◌, length, codes, Option, Some, None, option_map, if◌then◌else◌}
 use Rattle.std.specs.List.{starts_with}
 use Rattle.std.specs.Cmp.Lexicographic.{pointwise}
-use Rattle.run_texts.specs.Text.{hexadecimal}
+use Rattle.std.specs.Option.{option_and_then}
+use Rattle.run_texts.specs.Text.{numeral, hexadecimal}
 use Rattle.leon_main.specs.declared.words.Command.{Command}
 use Rattle.leon_main.specs.declared.words.Command.TheVariants as code
 use Rattle.leon_main.specs.declared.words.Names.{Names}
@@ -14,9 +15,10 @@ pub record FileNames : Type 0 where
   pub script : List ℕ
   pub schedule : List ℕ
 
--- what a call asks for: a run of these files, or the check bits of a word
+-- what a call asks for: a run of these files, the image of a generated program, or the check bits of a word
 pub data Request : Type 0 where
   Play : (names : FileNames) → Request
+  Generate : (start size : ℕ) → Request
   Codes : (word : ℕ) → Request
 
 -- the word is this text
@@ -33,10 +35,33 @@ undashed names =
     if is_dashed names.image || is_dashed names.configuration || is_dashed names.script || is_dashed names.schedule then None
     else Some names
 
--- what a command asks for with these words, None where they are not taken: `play` with the names of four files, and
--- `codes` with a word of 8 hexadecimal digits
+-- a number: 1 to 20 decimal digits, which may begin with zeros, of a number below 2 ^ 64
+abbrev pub numeral_word : List ℕ → Option ℕ
+numeral_word word = if nat_le 1 (length word) && nat_le (length word) 20 then numeral 10 word else None
+
+abbrev pub below : ℕ → ℕ → Option ℕ
+below most n = if nat_lt n most then Some n else None
+
+unfoldable pub number : List ℕ → Option ℕ
+number word = option_and_then (below (2 ^ 64)) (numeral_word word)
+
+-- the size of a program: a number from 16 to 100000
+abbrev pub if_size : ℕ → Option ℕ
+if_size n = if nat_le 16 n && nat_le n 100000 then Some n else None
+
+unfoldable pub size : List ℕ → Option ℕ
+size word = option_and_then if_size (number word)
+
+-- what a command asks for with these words, None where they are not taken: `play` with the names of four files, `gen` with a
+-- start and a size, and `codes` with a word of 8 hexadecimal digits
 abbrev pub play_request : List ℕ → FileNames → Option Request
 play_request command names = if is_text (codes "play") command then option_map Play (undashed names) else None
+
+abbrev pub generate_request : (command start_word size_word : List ℕ) → Option Request
+generate_request command start_word size_word =
+    if is_text (codes "gen") command
+    then option_and_then (λ start. option_map (Generate start) (size size_word)) (number start_word)
+    else None
 
 abbrev pub codes_request : List ℕ → List ℕ → Option Request
 codes_request command word = if is_text (codes "codes") command then option_map Codes (hexadecimal word) else None
@@ -45,12 +70,16 @@ codes_request command word = if is_text (codes "codes") command then option_map 
 unfoldable pub request_of : List (List ℕ) → Option Request
 request_of (program ∷ command ∷ image ∷ configuration ∷ script ∷ schedule ∷ []) =
     play_request command (record { image = image; configuration = configuration; script = script; schedule = schedule })
+request_of (program ∷ command ∷ start_word ∷ size_word ∷ []) = generate_request command start_word size_word
 request_of (program ∷ command ∷ word ∷ []) = codes_request command word
 request_of _ = None
 
--- the words ask for a run of these files, or for the check bits of this word
+-- the words ask for a run of these files, for the image of a program, or for the check bits of this word
 abbrev pub AsksToPlay : List (List ℕ) → FileNames → Type 0
 AsksToPlay words names = request_of words ≡ Some (Play names)
+
+abbrev pub AsksToGenerate : List (List ℕ) → ℕ → ℕ → Type 0
+AsksToGenerate words start size = request_of words ≡ Some (Generate start size)
 
 abbrev pub AsksForCodes : List (List ℕ) → ℕ → Type 0
 AsksForCodes words word = request_of words ≡ Some (Codes word)
@@ -66,4 +95,11 @@ told names = record {
 
 abbrev pub asked : Command → Request
 asked (code.Play names) = Play (told names)
+asked (code.Generate start size) = Generate start size
 asked (code.Codes word) = Codes word
+
+-- the size of a program is in its range
+abbrev pub SizeFits : Command → Type 0
+SizeFits (code.Play names) = ⊤
+SizeFits (code.Generate start size) = (16 ≤ size) × (size ≤ 100000)
+SizeFits (code.Codes word) = ⊤

@@ -6,6 +6,7 @@ ghost use Rattle.leon_main.specs.Call.{status_of, text_of};
 
 use crate::fault::Fault;
 use lf_io::{Failed, Sink, put_all};
+use lf_model::image::Bytes;
 use lf_model::trace::{CoreEnd, CoreResult, Trace};
 use report_text::fields::{LINE_FEED, Piece, put_hex_field};
 use report_text::write_report;
@@ -15,6 +16,8 @@ use report_text::write_report;
 pub enum Answer {
     /// The image ran.
     Report(Trace),
+    /// The file of the image of a generated program.
+    ImageFile(Bytes),
     /// The seven check bits of a word.
     CheckBits(u8),
 }
@@ -63,12 +66,13 @@ pub fn status_of(outcome: &Result<Answer, Fault>) -> u8
 {
     match outcome {
         Ok(Answer::Report(trace)) => status_of_cores(trace.cores.as_slice()),
+        Ok(Answer::ImageFile(_)) => 0,
         Ok(Answer::CheckBits(_)) => 0,
         Err(fault) => fault.status(),
     }
 }
 
-/// Writes the report or the line that tells what a call came to, and takes no memory.
+/// Writes the report, the image or the line that tells what a call came to, and takes no memory.
 pub fn write_text<K: Sink>(outcome: &Result<Answer, Fault>, out: &mut K) -> Result<(), Failed>
     ensures whole { OnOk result (Takes (K.taken out.old) (K.taken out.new) (text_of outcome.now)) }
     ensures part { OnErr result (TakesPrefix (K.taken out.old) (K.taken out.new) (text_of outcome.now)) }
@@ -76,6 +80,7 @@ pub fn write_text<K: Sink>(outcome: &Result<Answer, Fault>, out: &mut K) -> Resu
 {
     match outcome {
         Ok(Answer::Report(trace)) => write_report(trace, out),
+        Ok(Answer::ImageFile(file)) => put_all(out, file.as_slice()),
         Ok(Answer::CheckBits(bits)) => write_line(&check_bits_line(*bits), out),
         Err(fault) => write_line(&fault.line(), out),
     }

@@ -11,7 +11,7 @@ ghost use Rattle.lf_model.specs.declared.setup.Setup.{Setup};
 ghost use Rattle.lf_model.specs.declared.trace.Trace.{Trace};
 ghost use Rattle.machine_play.specs.Playable.{IsPlayable};
 ghost use Rattle.leon_main.specs.Accepted.{AreParts};
-ghost use Rattle.leon_main.specs.Call.{IsOutcome, IsAnswered, IsCutOff, IsFaultless, Tells, Decides, IsSettled, status_of, text_of};
+ghost use Rattle.leon_main.specs.Call.{generated_file, IsOutcome, IsAnswered, IsCutOff, IsFaultless, Tells, Decides, IsSettled, status_of, text_of};
 ghost use Rattle.leon_main.specs.Faults.{line_of};
 ghost use Rattle.leon_main.specs.Given.{AnswersGiven};
 ghost use Rattle.leon_main.specs.Reading.{IsCause};
@@ -22,8 +22,9 @@ use crate::fault::Fault;
 use crate::reading;
 use crate::words::{Command, Names, WordsErr, command_of};
 use lf_io::{Files, Sink};
+use lf_model::image::Bytes;
 use lf_model::setup::{Event, Setup};
-use std::alloc::Global;
+use std::alloc::{AllocError, Global};
 use std::process::ExitCode;
 
 /// What the files of a run spell: the machine with all that happens to it, and the order in which its actors move.
@@ -53,6 +54,17 @@ fn run_of<F: Files>(alloc: Global, files: &mut F, names: Names) -> Result<Run, F
     Ok(Run { setup, events })
 }
 
+/// The file of the image of a generated program.
+fn image_file(alloc: Global, start: u64, size: u32) -> Result<Bytes, AllocError>
+    requires least { 16 ≤ size }
+    requires most { size ≤ 100000 }
+    ensures { IfOk result (λ file. file ≡ generated_file start size) }
+{
+    let image = work_gen::make(alloc, start, size)?;
+    let file = elf_image::write_image(alloc, &image)?;
+    Ok(Bytes::from_vec(file))
+}
+
 /// The check bits of a word.
 fn check_bits(word: u32) -> u8
     ensures { result ≡ check_bits word }
@@ -70,6 +82,10 @@ fn outcome_of<F: Files>(alloc: Global, words: &[String], files: &mut F) -> Resul
             let run = run_of(alloc, files, names)?;
             let trace = machine_play::play(alloc, &run.setup, &run.events)?;
             Ok(Answer::Report(trace))
+        }
+        Some(Command::Generate { start, size }) => {
+            let file = image_file(alloc, start, size)?;
+            Ok(Answer::ImageFile(file))
         }
         Some(Command::Codes(word)) => Ok(Answer::CheckBits(check_bits(word))),
         None => Err(Fault::Usage),
@@ -105,8 +121,9 @@ fn tell_memory<K: Sink>(out: &mut K) -> u8
 
 /// Does what the words of a call say, and answers the exit status.
 ///
-/// `play IMAGE CONFIG SCRIPT SCHEDULE` runs an image by a schedule and writes its report; `codes WORD` writes the check bits of a word of
-/// 8 hexadecimal digits. A line that begins with `error` tells why there is no result. Nothing is written after the sink
+/// `play IMAGE CONFIG SCRIPT SCHEDULE` runs an image by a schedule and writes its report; `gen START SIZE` writes the image of a
+/// program of SIZE pseudo-random instructions that are made from the number START; `codes WORD` writes the check bits of a word
+/// of 8 hexadecimal digits. A line that begins with `error` tells why there is no result. Nothing is written after the sink
 /// failed.
 pub fn plain_call<F: Files, K: Sink>(
     alloc: Global,
@@ -121,7 +138,7 @@ pub fn plain_call<F: Files, K: Sink>(
         → IsAnswered (map string_bytes words.now) (F.held files.old) (F.faults files.old) (F.faults files.new)
         (K.taken out.old) (K.taken out.new) result }
 
-    // 7 is want of memory in reading the files of a run or in the run, and its line was taken.
+    // 7 is want of memory in reading the files of a run, in the run or in making an image, and its line was taken.
     ensures memory { result ≡ 7 → Takes (K.taken out.old) (K.taken out.new) (line_of Fault.Memory) }
 
     // 8 is a fault of the sink, which took a part of the text and nothing more.
@@ -131,8 +148,8 @@ pub fn plain_call<F: Files, K: Sink>(
         (K.taken out.old) (K.taken out.new) }
 
     // Where the files tell what they hold and none of their faults was counted, words and files decide the answer: words
-    // that are not taken, a word for its check bits, the first refusal of the files, or the setup and the schedule that
-    // they spell.
+    // that are not taken, a start and a size for an image, a word for its check bits, the first refusal of the files, or the
+    // setup and the schedule that they spell.
     ensures decides { (held : FileMap) → F.held files.old ≡ Some held
         → IsFaultless (map string_bytes words.now) (F.faults files.old) (F.faults files.new)
         → Decides (map string_bytes words.now) held (K.taken out.old) (K.taken out.new) result }

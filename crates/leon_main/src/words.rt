@@ -1,6 +1,8 @@
-ghost use Rattle.std.specs.Prelude.{◌≡◌, map, option_map, string_bytes, codes};
+ghost use Rattle.std.specs.Prelude.{◌≡◌, ◌≤◌, map, option_map, string_bytes, codes, IfSome};
+ghost use Rattle.std.specs.Char.{is_digit};
+ghost use Rattle.std.specs.List.{list_all};
 ghost use Rattle.run_texts.specs.Text.{numeral, hexadecimal};
-ghost use Rattle.leon_main.specs.Words.{is_text, is_dashed, undashed, play_request, codes_request, request_of, told, asked};
+ghost use Rattle.leon_main.specs.Words.{is_text, is_dashed, undashed, number, size, play_request, generate_request, codes_request, request_of, told, asked, SizeFits};
 
 use std::alloc::AllocError;
 use std::io;
@@ -48,6 +50,13 @@ impl From<AllocError> for WordsErr {
 pub enum Command<'a> {
     /// A run of the image, for a configuration, a script of flips and a schedule.
     Play(Names<'a>),
+    /// The image of a generated program.
+    Generate {
+        /// The number from which its pseudo-random numbers are made.
+        start: u64,
+        /// The number of its instructions between start-up code and end, from 16 to 100,000.
+        size: u32,
+    },
     /// The check bits of a word.
     Codes(u32),
 }
@@ -66,6 +75,13 @@ fn is_play(word: &str) -> bool
     ensures { result ≡ is_text (codes "play") word.now }
 {
     word == "play"
+}
+
+/// The word is `gen`.
+fn is_gen(word: &str) -> bool
+    ensures { result ≡ is_text (codes "gen") word.now }
+{
+    word == "gen"
 }
 
 /// The word is `codes`.
@@ -108,6 +124,21 @@ fn play_of<'a>(command: &str, names: Names<'a>) -> Option<Command<'a>>
     }
 }
 
+/// The image of a program, `None` where the words are not taken.
+fn generate_of(command: &str, start: &str, size: &str) -> Option<Command<'static>>
+    ensures request { option_map asked result ≡ generate_request command.now start.now size.now }
+    ensures fits { IfSome result SizeFits }
+{
+    if is_gen(command) {
+        Some(Command::Generate {
+            start: number(start)?,
+            size: size_of(size)?,
+        })
+    } else {
+        None
+    }
+}
+
 /// The check bits of a word, `None` where the words are not taken.
 fn codes_of(command: &str, word: &str) -> Option<Command<'static>>
     ensures { option_map asked result ≡ codes_request command.now word.now }
@@ -122,7 +153,8 @@ fn codes_of(command: &str, word: &str) -> Option<Command<'static>>
 /// What the words of a call ask for, `None` where they are not taken.
 #[tactic(auto, unfolding(crate::specs::Words::request_of))]
 pub fn command_of(words: &[String]) -> Option<Command<'_>>
-    ensures { option_map asked result ≡ request_of (map string_bytes words.now) }
+    ensures request { option_map asked result ≡ request_of (map string_bytes words.now) }
+    ensures fits { IfSome result SizeFits }
 {
     match words {
         [_, command, image, configuration, script, schedule] => {
@@ -134,8 +166,43 @@ pub fn command_of(words: &[String]) -> Option<Command<'_>>
             };
             play_of(command.as_str(), names)
         }
+        [_, command, start, size] => generate_of(command.as_str(), start.as_str(), size.as_str()),
         [_, command, word] => codes_of(command.as_str(), word.as_str()),
         _ => None,
+    }
+}
+
+/// All bytes of the word are decimal digits.
+fn has_digits_alone(word: &str) -> bool
+    ensures { result ≡ list_all (λ byte. is_digit byte 10) word.now }
+{
+    word.as_bytes()
+        .iter()
+        .all(|byte| char::from(*byte).is_digit(10))
+}
+
+/// The number that 1 to 20 decimal digits write, `None` where the word is not of this form or the number is not below 2^64.
+fn number(word: &str) -> Option<u64>
+    ensures { result ≡ number word.now }
+{
+    if word.len() <= 20 && has_digits_alone(word) {
+        word.parse().ok()
+    } else {
+        None
+    }
+}
+
+/// The size of a program, `None` where the word is no number from 16 to 100,000.
+#[tactic(auto, unfolding(crate::specs::Words::size))]
+fn size_of(word: &str) -> Option<u32>
+    ensures size { result ≡ size word.now }
+    ensures fits { IfSome result (λ size. (16 ≤ size) × (size ≤ 100000)) }
+{
+    let size = number(word)?;
+    if 16 <= size && size <= 100_000 {
+        Some(size as u32)
+    } else {
+        None
     }
 }
 
