@@ -79,8 +79,13 @@ by_report words files old new trace status cause own = record {
   where
     played_as : (setup : Setup) (events : List Event) → cause.setup ≡ setup → cause.events ≡ events → Reports status old new setup events
     played_as setup events same same_events = elim own [
-      | inl told ↦ inl (trace, subst (λ (e : List Event). IsPlayedBy setup e trace) same_events
-          (subst (λ (s : Setup). IsPlayedBy s cause.events trace) same cause.played), told.0, told.1)
+      | inl told ↦ inl (
+        trace,
+        subst (λ (e : List Event). IsPlayedBy setup e trace) same_events
+            (subst (λ (s : Setup). IsPlayedBy s cause.events trace) same cause.played),
+        told.0,
+        told.1,
+      )
       | inr fault ↦ inr (inr fault)
     ]
 

@@ -1,5 +1,5 @@
 -- The words in the lines of faults are short.
-use Rattle.std.proofs.Common.{ℕ, ◌≤◌, List, [], length, Option, Some, None, lit≤}
+use Rattle.std.proofs.Common.{ℕ, ◌≤◌, [], length, Option, Some, None, lit≤}
 use Rattle.std.specs.Option.{option_map_or}
 use Rattle.elf_image.specs.Names.{name_of, refusal_of, refusal_name}
 use Rattle.elf_image.specs.declared.refusal.Refusal.{Refusal}

@@ -1,8 +1,7 @@
 -- Status 7 comes with the line of want of memory.
-use Rattle.std.proofs.Common.{ℕ, ◌≡◌, Bool, true, false, List, if◌then◌else◌, Result, Ok, Err, refl, arith}
-use Rattle.lf_model.specs.declared.trace.CoreResult.{CoreResult}
+use Rattle.std.proofs.Common.{ℕ, ◌≡◌, Bool, true, false, if◌then◌else◌, Result, Ok, Err, refl, arith}
 use Rattle.leon_main.specs.Call.{status_of, text_of}
-use Rattle.leon_main.specs.Ends.{is_stop, is_limit, some_end, status_of_cores}
+use Rattle.leon_main.specs.Ends.{is_stop, is_limit, some_end}
 use Rattle.leon_main.specs.Faults.{line_of}
 use Rattle.leon_main.specs.declared.answer.Answer.{Answer}
 use Rattle.leon_main.specs.declared.answer.Answer.TheVariants.{Report, ImageFile, CheckBits}
