@@ -3,7 +3,9 @@ use Rattle.std.specs.Prelude.{ℕ, ◌<◌, ◌≤◌, List, length, Option, All
 use Rattle.lf_model.specs.Ledger.Rule.{TriedBefore, NoneLeft}
 use Rattle.lf_model.specs.Once.{OnceAtCore, OnceAtOrder, OnceAtTransfer, OnceAtFinal}
 use Rattle.lf_model.specs.Order.{LoadOpAt, StoreStoreAt}
-use Rattle.lf_model.specs.Places.{AtPlace}
+use Rattle.lf_model.specs.Places.{AtPlace, FailsNowhere}
+use Rattle.lf_model.specs.Records.CoreRules.{ThreadAt, ResultAt}
+use Rattle.lf_model.specs.Results.{ResultAtFinal}
 use Rattle.lf_model.specs.Start.{initial_byte, is_in_ram}
 use Rattle.lf_model.specs.Value.{ValueAt}
 use Rattle.lf_model.specs.declared.place.Place.{Place}
@@ -49,3 +51,12 @@ StoreStoreFailsFirst = OrderFailsFirst StoreStoreAt
 
 abbrev pub ValueFailsFirst : Setup → Trace → Option Place → Type 0
 ValueFailsFirst setup = OrderFailsFirst (ValueAt (initial_byte setup.image))
+
+abbrev pub ThreadFailsFirst : Setup → Trace → Option Place → Type 0
+ThreadFailsFirst setup trace = TriedBefore setup.config.cores (ThreadAt setup trace) Core NoneLeft
+
+-- Result is tried at the cores, and then at the watched words, all of them at once
+abbrev pub ResultFailsFirst : Setup → Trace → Option Place → Type 0
+ResultFailsFirst setup trace =
+    TriedBefore setup.config.cores (ResultAt setup trace) Core
+    (TriedBefore 1 (λ i. FailsNowhere (length trace.watch) (ResultAtFinal setup trace)) (λ i. Final) NoneLeft)

@@ -1,2 +1,5 @@
 pub mod LastPlaces
 pub mod FirstPlaces
+pub mod ReplayState
+pub mod ReplayInside
+pub mod ThreadState

@@ -5,12 +5,20 @@
 //! may read, and what is left in the watched words.
 #![tactic(auto)]
 
+mod execution;
+mod made;
 mod parts;
+mod ports;
+mod program;
+mod program_order;
 mod reading;
+mod replay;
+mod running;
 mod sequence;
 mod verdict;
 mod watched;
 
+pub use execution::thread;
 pub use parts::once;
 pub use reading::value;
 pub use sequence::{load_op, store_store};

@@ -11,7 +11,7 @@ use lf_model::trace::{Op, Trace, Word2};
 use std::alloc::{AllocError, Global};
 
 /// How many operations are of core `c`.
-fn count_of(order: &[Op], c: u32) -> usize
+pub(crate) fn count_of(order: &[Op], c: u32) -> usize
     ensures { result ≡ count_by (of_core c) order.now }
 {
     order.iter().filter(|op| op.core == c).count()
