@@ -11,7 +11,8 @@ use Rattle.lf_model.specs.declared.trace.Op.{Op}
 use Rattle.lf_model.specs.declared.trace.Trace.{Trace}
 use Rattle.tso_audit.proofs.Places.{at_place, from_place}
 use Rattle.tso_audit.specs.FirstPlaces.{HasCoresBelow, LieInRam}
-use Rattle.tso_audit.specs.LastPlaces.{no_op, start_in, ValueOf, earlier_of}
+use Rattle.tso_audit.specs.LastPlaces.{start_in, ValueOf, earlier_of}
+use Rattle.tso_thread.specs.ReplayState.{no_op}
 
 -- two rules that agree at each place fail first at the same place
 pub first_same : (n : ℕ) (P Q : ℕ → Type 0) → ((i : ℕ) → i < n → P i → Q i) → ((i : ℕ) → i < n → Q i → P i) → (a : Option ℕ) → FailsFirst n P a → FailsFirst n Q a

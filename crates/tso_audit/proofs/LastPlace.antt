@@ -8,7 +8,8 @@ use Rattle.lf_model.specs.Operation.{enters, stores, made, touches, byte_put}
 use Rattle.lf_model.specs.Value.{stored, own_before, candidates}
 use Rattle.lf_model.specs.declared.bus.Entry.{Entry}
 use Rattle.lf_model.specs.declared.trace.Op.{Op}
-use Rattle.tso_audit.specs.LastPlaces.{no_op, place_if, last_place, at_address, byte_before}
+use Rattle.tso_audit.specs.LastPlaces.{place_if, last_place, at_address, byte_before}
+use Rattle.tso_thread.specs.ReplayState.{no_op}
 
 -- ---- the last place that passes a test
 

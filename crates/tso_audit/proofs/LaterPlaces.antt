@@ -13,7 +13,8 @@ use Rattle.lf_model.specs.declared.trace.Op.{Op}
 use Rattle.tso_audit.proofs.LastPlace.{last_append, last_low, read_byte}
 use Rattle.tso_audit.proofs.Places.{at_place, from_place}
 use Rattle.tso_audit.specs.FirstPlaces.{LieInRam}
-use Rattle.tso_audit.specs.LastPlaces.{no_op, store_of, place_if, last_place, at_address, byte_before, later_place, start_in, HasLaterPlaces, AreBeforeReads, ValueOf}
+use Rattle.tso_audit.specs.LastPlaces.{store_of, place_if, last_place, at_address, byte_before, later_place, start_in, HasLaterPlaces, AreBeforeReads, ValueOf}
+use Rattle.tso_thread.specs.ReplayState.{no_op}
 
 -- ---- the last places of lists
 

@@ -6,15 +6,3 @@ pub mod LastPlace
 pub mod LaterPlaces
 pub mod FirstWrongRead
 pub mod WatchedWords
-pub mod Fronts
-pub mod ThreadReplay
-pub mod TextInRam
-pub mod ProgramOrder
-pub mod EffectEnds
-pub mod ReplayCases
-pub mod ThreadStep
-pub mod ReplayTouches
-pub mod ThreadRun
-pub mod StepKept
-pub mod CoreByCore
-pub mod ThreadReset

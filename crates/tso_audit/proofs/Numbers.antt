@@ -9,7 +9,8 @@ use Rattle.lf_model.specs.Places.{AtPlace}
 use Rattle.lf_model.specs.declared.trace.Op.{Op}
 use Rattle.tso_audit.proofs.LargestNumber.{next_number, number_if, small_each, each_small, IsOwn, Keeps}
 use Rattle.tso_audit.proofs.Places.{at_place, from_place}
-use Rattle.tso_audit.specs.LastPlaces.{no_op, store_of}
+use Rattle.tso_audit.specs.LastPlaces.{store_of}
+use Rattle.tso_thread.specs.ReplayState.{no_op}
 
 pub core_own : IsOwn of_core
 core_own c o other = ne_eqb o.core c (λ same. other (sym same))

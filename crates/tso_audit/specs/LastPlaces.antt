@@ -4,13 +4,9 @@ use Rattle.std.specs.Prelude.{ℕ, zero, suc, true, ◌≡◌, ◌<◌, ◌≤�
 use Rattle.lf_model.specs.Operation.{of_core, reads, enters, stores, made, touches, byte_put}
 use Rattle.lf_model.specs.Start.{ram_first, number_at}
 use Rattle.lf_model.specs.Value.{ValueAt}
-use Rattle.lf_model.specs.declared.bus.OpKind.TheVariants as kinds
 use Rattle.lf_model.specs.declared.trace.Op.{Op}
 use Rattle.lf_model.specs.declared.trace.Word2.{Word2}
-
--- no operation, which no place inside a list shows
-abbrev pub no_op : Op
-no_op = record { got = 0; put = 0; core = 0; k = 0; step = 0; addr = 0; kind = kinds.Load; len = 0; way = 0 }
+use Rattle.tso_thread.specs.ReplayState.{no_op}
 
 -- a store or an atomic of core c, lost or not
 abbrev pub store_of : ℕ → Op → Bool

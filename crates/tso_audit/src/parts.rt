@@ -9,13 +9,7 @@ use lf_model::place::Place;
 use lf_model::setup::Setup;
 use lf_model::trace::{Op, Trace, Word2};
 use std::alloc::{AllocError, Global};
-
-/// How many operations are of core `c`.
-pub(crate) fn count_of(order: &[Op], c: u32) -> usize
-    ensures { result ≡ count_by (of_core c) order.now }
-{
-    order.iter().filter(|op| op.core == c).count()
-}
+use tso_thread::count_of;
 
 /// Counts an operation of core `c` at its number, if that is among the numbers that are counted.
 fn count_number(times: &mut [u32], op: &Op, c: u32)

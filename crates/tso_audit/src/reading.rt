@@ -6,7 +6,8 @@ ghost use Rattle.lf_model.specs.Start.{ram_first, is_in_ram};
 ghost use Rattle.lf_model.specs.Value.{ValueAt};
 ghost use Rattle.ram_words.specs.Ram.{IsInRam};
 ghost use Rattle.tso_audit.specs.FirstPlaces.{HasCoresBelow, LieInRam, HaveEightBytes, ValueFailsFirst};
-ghost use Rattle.tso_audit.specs.LastPlaces.{no_op, store_of, at_address, byte_before, HasLaterPlaces, AreBeforeReads, start_in, ValueOf, earlier_of};
+ghost use Rattle.tso_audit.specs.LastPlaces.{store_of, at_address, byte_before, HasLaterPlaces, AreBeforeReads, start_in, ValueOf, earlier_of};
+ghost use Rattle.tso_thread.specs.ReplayState.{no_op};
 
 use crate::sequence::{reads, stores};
 use lf_model::addresses::RAM_FIRST;

@@ -5,7 +5,8 @@ ghost use Rattle.lf_model.specs.Results.{ResultAtFinal};
 ghost use Rattle.lf_model.specs.Start.{ram_first, is_in_ram, number_at};
 ghost use Rattle.ram_words.specs.Ram.{IsInRam};
 ghost use Rattle.tso_audit.specs.FirstPlaces.{LieInRam, HaveEightBytes, WatchRam};
-ghost use Rattle.tso_audit.specs.LastPlaces.{no_op, HasLaterPlaces, byte_left, ShowsLeft};
+ghost use Rattle.tso_audit.specs.LastPlaces.{HasLaterPlaces, byte_left, ShowsLeft};
+ghost use Rattle.tso_thread.specs.ReplayState.{no_op};
 
 use crate::reading::{byte_before, note_entered};
 use lf_model::setup::Setup;

@@ -1,5 +1,6 @@
 use Rattle.std.proofs.Common.{◌≡◌, ◌<◌, ◌≤◌, ℕ, true, get_or}
-use Rattle.tso_audit.specs.LastPlaces.{no_op, store_of, HasLaterPlaces}
+use Rattle.tso_audit.specs.LastPlaces.{store_of, HasLaterPlaces}
+use Rattle.tso_thread.specs.ReplayState.{no_op}
 use Rattle.tso_audit.proofs.reading.note_own.Given as goal
 
 abbrev pub invariant-loop-j : goal.invariant-loop-j

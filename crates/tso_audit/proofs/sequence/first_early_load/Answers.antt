@@ -4,7 +4,7 @@ use Rattle.lf_model.specs.Order.{LoadOpAt}
 use Rattle.lf_model.specs.Places.{AtPlace}
 use Rattle.tso_audit.proofs.LargestNumber.{keeps_more}
 use Rattle.tso_audit.proofs.Numbers.{core_own, number_of_core, load_op_fails, load_op_passes}
-use Rattle.tso_audit.specs.LastPlaces.{no_op}
+use Rattle.tso_thread.specs.ReplayState.{no_op}
 use Rattle.tso_audit.proofs.sequence.first_early_load.Goals as goal
 
 pub returns-then-is_early_load : goal.returns-then-is_early_load

@@ -3,7 +3,8 @@ use Rattle.lf_model.specs.Order.{StoreStoreAt}
 use Rattle.lf_model.specs.Places.{AtPlace}
 use Rattle.tso_audit.proofs.LargestNumber.{keeps_more}
 use Rattle.tso_audit.proofs.Numbers.{store_own, number_of_store, store_store_fails, store_store_passes}
-use Rattle.tso_audit.specs.LastPlaces.{no_op, store_of}
+use Rattle.tso_audit.specs.LastPlaces.{store_of}
+use Rattle.tso_thread.specs.ReplayState.{no_op}
 use Rattle.tso_audit.proofs.sequence.first_early_store.Goals as goal
 
 pub returns-then-is_early_store : goal.returns-then-is_early_store

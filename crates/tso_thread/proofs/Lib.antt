@@ -1,0 +1,12 @@
+pub mod Fronts
+pub mod ThreadReplay
+pub mod TextInRam
+pub mod ProgramOrder
+pub mod EffectEnds
+pub mod ReplayCases
+pub mod ThreadStep
+pub mod ReplayTouches
+pub mod ThreadRun
+pub mod StepKept
+pub mod ThreadReset
+pub mod CoreByCore

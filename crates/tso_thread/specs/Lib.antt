@@ -1,0 +1,4 @@
+pub mod ReplayState
+pub mod ReplayInside
+pub mod ThreadState
+pub mod Shown
