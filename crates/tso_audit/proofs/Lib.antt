@@ -6,3 +6,5 @@ pub mod LastPlace
 pub mod LaterPlaces
 pub mod FirstWrongRead
 pub mod WatchedWords
+pub mod AuditFacts
+pub mod AuditYes

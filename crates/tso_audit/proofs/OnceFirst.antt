@@ -1,5 +1,5 @@
 -- The first place at which Once fails, from the first place of each of its parts.
-use Rattle.std.proofs.Common.{◌≡◌, ◌∙◌, ◌<◌, ◌≤◌, ℕ, Bool, true, false, List, length, get_or, sym, subst, inl, inr, refl, Option, Some, None, arith, count_by}
+use Rattle.std.proofs.Common.{◌≡◌, ◌∙◌, ◌<◌, ℕ, Bool, true, false, List, length, get_or, sym, subst, inl, inr, refl, Option, Some, None, arith, count_by}
 use Rattle.std.specs.Prelude.{All}
 use Rattle.std.proofs.lemmas.Grind.{get_or_default_zero}
 use Rattle.lf_model.specs.Operation.{of_core}
@@ -10,9 +10,7 @@ use Rattle.lf_model.specs.declared.place.Place.TheVariants.{Core, Order, Transfe
 use Rattle.lf_model.specs.declared.setup.Setup.{Setup}
 use Rattle.lf_model.specs.declared.trace.Op.{Op}
 use Rattle.lf_model.specs.declared.trace.Trace.{Trace}
-use Rattle.lf_model.specs.declared.place.Place.{Place}
-use Rattle.tso_audit.specs.FirstPlaces.{HasCoresBelow, OnceFailsFirst}
-use Rattle.tso_audit.proofs.Places.{from_place}
+use Rattle.tso_audit.specs.FirstPlaces.{OnceFailsFirst}
 
 -- ---- how often each number of a core stands
 
@@ -73,18 +71,3 @@ once_op setup trace order core op order_is cores ops no_core i is =
 
 pub unlike : (b : Bool) → b ≡ true → b ≡ false → ⊥
 unlike b is not = cc
-
--- ---- what later rules take from Once
-
-no_place : {p : Place} → None ≡ Some p → ⊥
-no_place e = cc
-
--- where Once fails nowhere, each operation is of one of 8 cores
-pub cores_below : (setup : Setup) (trace : Trace) → OnceFailsFirst setup trace None → setup.config.cores ≤ 8 → HasCoresBelow 8 trace.order
-cores_below setup trace once few k d low = elim once [
-  | inl h ↦ elim h.1 [
-    | inl ops ↦ omega (arith, few, from_place (λ (o : Op). o.core < setup.config.cores) trace.order k d low (ops.0 k low))
-    | inr late ↦ absurd (no_place late.2)
-  ]
-  | inr early ↦ absurd (no_place early.2)
-]

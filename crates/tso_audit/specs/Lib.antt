@@ -1,2 +1,3 @@
 pub mod LastPlaces
 pub mod FirstPlaces
+pub mod Audit

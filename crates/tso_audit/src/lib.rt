@@ -1,6 +1,7 @@
 //! The audit of a trace: which of the rules of its promise fails first, and where.
 //!
-//! Each rule is a call of its own, tried over the definitions that say what a run means, with nothing of the machine:
+//! `audit` tries all of them but the ledger. Each rule is a call of its own too, over the definitions that say what a run means, with
+//! nothing of the machine:
 //!
 //! | call | rule |
 //! |---|---|
@@ -13,6 +14,7 @@
 
 mod parts;
 mod reading;
+mod rules;
 mod sequence;
 mod threads;
 mod verdict;
@@ -20,6 +22,7 @@ mod watched;
 
 pub use parts::once;
 pub use reading::value;
+pub use rules::audit;
 pub use sequence::{load_op, store_store};
 pub use threads::{results, thread};
 pub use verdict::{Rule, Verdict};

@@ -10,3 +10,5 @@ pub mod ThreadRun
 pub mod StepKept
 pub mod ThreadReset
 pub mod CoreByCore
+pub mod AccessFits
+pub mod OpsInRam
