@@ -1,19 +1,19 @@
 -- Where Thread holds of all cores, every operation of the trace lies in RAM: it is made by an instruction, and an instruction whose
 -- address is not in RAM makes none.
 use Rattle.std.proofs.Common.{◌≡◌, ◌<◌, ℕ, zero, suc, Bool, true, false, List, [], ◌∷◌, length, map, get_or, Option, Some, None, inl, inr, refl, subst, arith}
-use Rattle.std.specs.Prelude.{All, IsTrue, IsSomeAnd, IfSome, slice_get}
-use Rattle.std.specs.Option.{is_some, option_and_then}
+use Rattle.std.specs.Prelude.{All, IsTrue, IsSomeAnd, IfSome}
+use Rattle.std.specs.Option.{is_some}
 use Rattle.std.specs.List.{AllByRecursion as Each}
 use Rattle.std.proofs.lemmas.List.{get_or_default}
 use Rattle.std.proofs.lemmas.Option.{option_and_then_some, same_Some, slice_get_cases, slice_get-get_or}
 use Rattle.lf_model.proofs.EachLemmas.{each_append, each_at, each_unmap}
-use Rattle.lf_model.specs.Effect.{Access, Effect}
+use Rattle.lf_model.specs.Effect.{Access}
 use Rattle.lf_model.specs.ProgramOrder.{answers_of, program_order}
 use Rattle.lf_model.specs.Once.{OnceAtCore}
 use Rattle.lf_model.specs.Operation.{made}
 use Rattle.lf_model.specs.Places.{FailsNowhere}
 use Rattle.lf_model.specs.Records.CoreRules.{HasThread, ThreadAt, core_in_trace}
-use Rattle.lf_model.specs.Run.{Run, site_of, operation, with_access, answer_to, answered, effect_at_pc, onward, run}
+use Rattle.lf_model.specs.Run.{Run, operation, with_access, answer_to, answered, effect_at_pc, onward, run}
 use Rattle.lf_model.specs.Start.{is_in_ram}
 use Rattle.lf_model.specs.declared.bus.Entry.{Entry}
 use Rattle.lf_model.specs.declared.setup.Setup.{Setup}
@@ -68,8 +68,8 @@ module _ (setup : Setup) where
       let under : c < setup.config.cores = below i no_op low in
       elim (slice_get_cases trace.cores c).1 [
         | inl there ↦
-          let h : HasThread setup (core_in_trace trace c there.0) = subst (λ (x : Option CoreResult). IfSome x (λ r. HasThread setup (core_in_trace trace c r))) there.2 (thread c under) in
-          subst Inside (get_or_default trace.order i no_op d low)
-          (order_has c trace.order (once c under) i low refl Inside (inside_ops c there.0.n (program_order c trace.order) h.same))
+            let h : HasThread setup (core_in_trace trace c there.0) = subst (λ (x : Option CoreResult). IfSome x (λ r. HasThread setup (core_in_trace trace c r))) there.2 (thread c under) in
+            subst Inside (get_or_default trace.order i no_op d low)
+            (order_has c trace.order (once c under) i low refl Inside (inside_ops c there.0.n (program_order c trace.order) h.same))
         | inr none ↦ absurd (omega (arith, none.0, shown, under))
       ]
