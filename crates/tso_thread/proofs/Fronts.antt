@@ -1,7 +1,7 @@
 -- Operations that are the first ones of a trace, and one more.
 use Rattle.std.proofs.Common.{◌≡◌, ◌∙◌, ◌<◌, ◌+◌, ◌++◌, ℕ, Bool, false, List, [], ◌∷◌, length, map, take, get_or, refl, ap, sym, arith, ◌↔◌}
 use Rattle.std.specs.Prelude.{IsTrue}
-use Rattle.std.proofs.Math.Seq.{take-append_seam, get_or-append_seam, take-length}
+use Rattle.std.proofs.Math.Seq.{take-append_seam, get_or-append_seam}
 use Rattle.std.proofs.lemmas.Bool.{false≢true}
 use Rattle.std.proofs.lemmas.List.{take_more, map-append, length-map, length-append, length-take-le, take-map}
 use Rattle.lf_model.specs.Operation.{made}
@@ -12,14 +12,7 @@ use Rattle.tso_thread.specs.ReplayState.{no_op, IsFront, IsNextEntry}
 pub empty_front : (ops : List Op) → IsFront [] ops
 empty_front ops = record { few = omega arith; same = refl }
 
--- all of them
-pub whole_front : (es : List Entry) (ops : List Op) → IsFront es ops → length es ≡ length ops → es ≡ map made ops
-whole_front es ops front long = front.same ∙ ap (map made) (ap (λ (n : ℕ). take n ops) long ∙ take-length ops)
-
-pub whole_long : (es : List Entry) (ops : List Op) → es ≡ map made ops → length es ≡ length ops
-whole_long es ops all = ap length all ∙ length-map ops made
-
--- the first of all of them
+-- the first of all
 pub first_front : (es rest : List Entry) (ops : List Op) → es ++ rest ≡ map made ops → IsFront es ops
 first_front es rest ops all =
     let long : length es + length rest ≡ length ops = sym (length-append es rest) ∙ (ap length all ∙ length-map ops made) in
@@ -38,15 +31,6 @@ module _ (es : List Entry) (x : Entry) (ops : List Op) where
   -- so many operations of the trace, and the next one
   front_more : n < length ops → map made (take (n + 1) ops) ≡ map made (take n ops) ++ made (get_or ops n no_op) ∷ []
   front_more there = ap (map made) (take_more ops n no_op there) ∙ map-append made (take n ops) (get_or ops n no_op ∷ [])
-
-  pub more_front : IsFront es ops → IsNextEntry ops n x → IsFront (es ++ x ∷ []) ops
-  more_front front next = record {
-    few = omega (arith, longer, next.there);
-    same =
-        ap (λ (l : List Entry). l ++ x ∷ []) front.same
-        ∙ (ap (λ (y : Entry). map made (take n ops) ++ y ∷ []) next.same
-        ∙ (sym (front_more next.there) ∙ ap (λ (m : ℕ). map made (take m ops)) (sym longer)));
-  }
 
   module _ (front : IsFront (es ++ x ∷ []) ops) where
     there : n < length ops
@@ -77,9 +61,6 @@ module _ (es : List Entry) (x : Entry) (ops : List Op) where
           ∙ get_or-append_seam (map made (take n ops)) (made (get_or ops n no_op)) [] x));
     }
 
--- one more operation is made
-pub next_front : (es : List Entry) (x : Entry) (ops : List Op) (next : Bool) → IsFront es ops → (IsTrue next ↔ IsNextEntry ops (length es) x) → IsTrue next ↔ IsFront (es ++ x ∷ []) ops
-next_front es x ops next front its = (λ it. more_front es x ops front (its.0 it), λ all. its.1 (front_next es x ops all))
-
+-- operations that are not the first ones of the trace stay so with one more
 pub not_front : (es : List Entry) (x : Entry) (ops : List Op) (agrees : Bool) → (IsTrue agrees ↔ IsFront es ops) → agrees ≡ false → IsTrue agrees ↔ IsFront (es ++ x ∷ []) ops
 not_front es x ops agrees its not = (λ it. absurd (false≢true (sym not ∙ it)), λ all. its.1 (front_before es x ops all))

@@ -1,29 +1,21 @@
 -- A replayed core makes all operations of the trace, or its run comes to no thread.
-use Rattle.std.proofs.Common.{◌≡◌, ◌∙◌, ◌<◌, ◌+◌, ◌-◌, ◌↔◌, ℕ, suc, Bool, List, length, map, true, Option, Some, None, refl, sym, ap, subst, arith}
-use Rattle.std.specs.Prelude.{IsSomeAnd, IsTrue}
+use Rattle.std.proofs.Common.{◌≡◌, ◌∙◌, ◌<◌, ◌+◌, ◌-◌, ℕ, suc, List, map, true, Option, Some, None, refl, sym, ap, subst, arith}
+use Rattle.std.specs.Prelude.{IsSomeAnd}
 use Rattle.std.proofs.lemmas.Bool.{false≢true}
 use Rattle.std.specs.Option.{is_some}
-use Rattle.lf_model.specs.Effect.{Site}
 use Rattle.lf_model.specs.ProgramOrder.{answers_of}
 use Rattle.lf_model.specs.Operation.{made}
 use Rattle.lf_model.specs.Run.{Run, run}
 use Rattle.lf_model.specs.declared.setup.Setup.{Setup}
 use Rattle.lf_model.specs.declared.trace.Op.{Op}
-use Rattle.tso_thread.proofs.Fronts.{whole_front, whole_long}
 use Rattle.tso_thread.proofs.ThreadReplay.{no_run}
-use Rattle.tso_thread.specs.ThreadState.{setup_in, run_in, IsThreadOf, Replays, IsAt, HasNoThread, MakesAll}
+use Rattle.tso_thread.specs.ThreadState.{run_in, Replays, IsAt, HasNoThread, MakesAll}
 use Rattle.tso_thread.specs.declared.running.Thread.{Thread}
 
 module _ (setup : Setup) (core : ℕ) (ops : List Op) where
   -- the run that makes all
   abbrev pub IsAll : Option Run → Type 0
   IsAll r = IsSomeAnd r (λ q. q.ops ≡ map made ops)
-
-  pub all_made : (n : ℕ) (q : Run) → Replays setup core ops n q → length q.ops ≡ length ops → MakesAll setup core ops n
-  all_made n q so_far long = subst IsAll (sym so_far.ran) (whole_front q.ops ops so_far.front long)
-
-  pub made_all : (n : ℕ) (q : Run) → Replays setup core ops n q → MakesAll setup core ops n → length q.ops ≡ length ops
-  made_all n q so_far all = whole_long q.ops ops (subst IsAll so_far.ran all)
 
   pub none_after : (i n : ℕ) → HasNoThread setup core ops (i + 1) → i < n → MakesAll setup core ops n → ⊥
   none_after i n none low all = by (run setup core (answers_of ops) n) refl all
@@ -55,20 +47,6 @@ module _ (setup : Setup) (core : ℕ) (ops : List Op) (i n : ℕ) (low : i < n) 
   at_more : IsAt setup core ops i (n - (i + 1) + 1) old
   at_more = subst (λ (left : ℕ). IsAt setup core ops i left old) left_is at
 
-  -- another instruction can be made
-  pub ready : IsThreadOf (setup_in old) old.replay.core old.replay.ops.now 1 old
-  ready =
-      let core_is : old.replay.core ≡ core = ap (λ (site : Site). site.core) at.is.site in
-      record {
-        site = refl;
-        reads = refl;
-        sound = at.is.sound;
-        number = at.is.number ∙ sym core_is;
-        k = at.is.k;
-        n = omega (arith, at.is.n, low);
-        room = omega (arith, at.is.room, low);
-      }
-
   pub goes_on : (new : Thread) → ((setup : Setup) (core : ℕ) (ops : List Op) (m left : ℕ) → IsAt setup core ops m (left + 1) old → IsAt setup core ops (m + 1) left new)
       → IsAt setup core ops (i + 1) (n - (i + 1)) new
   goes_on new goes = goes setup core ops i (n - (i + 1)) at_more
@@ -78,14 +56,3 @@ module _ (setup : Setup) (core : ℕ) (ops : List Op) (i n : ℕ) (low : i < n) 
 
   pub ends_halted : is_some old.halt ≡ true → MakesAll setup core ops n → ⊥
   ends_halted some = halted_some setup core ops i n (run_in old) at.replays some low
-
-pub at_end : (setup : Setup) (core : ℕ) (ops : List Op) (i n : ℕ) (t : Thread) → i ≡ n → IsAt setup core ops i (n - i) t → IsAt setup core ops n 0 t
-at_end setup core ops i n t ended at =
-    let none : n - i ≡ 0 = omega (arith, ended) in
-    subst (λ (m : ℕ). IsAt setup core ops m 0 t) ended (subst (λ (left : ℕ). IsAt setup core ops i left t) none at)
-
-pub ends_whole : (setup : Setup) (core : ℕ) (ops : List Op) (n : ℕ) (t : Thread) (whole : Bool) → IsAt setup core ops n 0 t → (IsTrue whole ↔ length t.replay.made ≡ length t.replay.ops.now)
-    → IsTrue whole ↔ MakesAll setup core ops n
-ends_whole setup core ops n t whole at its =
-    let same : length t.replay.ops.now ≡ length ops = ap (λ (xs : List Op). length xs) at.is.reads in
-    (λ it. all_made setup core ops n (run_in t) at.replays (its.0 it ∙ same), λ all. its.1 (made_all setup core ops n (run_in t) at.replays all ∙ sym same))
