@@ -1,0 +1,2 @@
+pub mod TurnedBits
+pub mod UnitLemmas

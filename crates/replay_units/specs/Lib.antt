@@ -1,0 +1,4 @@
+pub mod Bits
+pub mod Ways
+pub mod Units
+pub mod Kept
