@@ -1,2 +1,3 @@
 pub mod TurnedBits
 pub mod UnitLemmas
+pub mod PlanLemmas

@@ -2,3 +2,4 @@ pub mod Bits
 pub mod Ways
 pub mod Units
 pub mod Kept
+pub mod PlanNumbers

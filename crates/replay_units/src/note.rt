@@ -16,7 +16,8 @@ pub(crate) fn note_flip(ledger: &mut FlipLedger, number: u32, unit: usize, count
     requires count { count ≡ length (standing_in ledger.old unit) }
     requires budget { budget < 3 }
     ensures keeps { Keeps ledger.old ledger.new }
-    ensures follows { (bit : ℕ) (h new : ℕ → List Moment) → Gains unit (Struck number bit) h new → Follows budget h ledger.old → Follows budget new ledger.new }
+    ensures follows { (bit : ℕ) (h new : ℕ → List Moment) → Gains unit (Struck number bit) h new
+        → Follows budget h ledger.old → Follows budget new ledger.new }
 {
     if count < budget {
         ledger.strike(number, unit);
