@@ -142,7 +142,9 @@ impl<'a> Replay<'a> {
     /// Counts an operation that was made.
     pub(crate) fn note(&mut self, kind: OpKind, addr: u32, len: u8, got: u64, put: u64)
         requires room { 0 < room_in self.old }
-        ensures seen { seen_in self.new ≡ record (seen_in self.old) { ops = self.old.made ++ record { got = got; put = put; core = self.old.core; k = length self.old.made; addr = addr; kind = kind; len = len } ∷ [] } }
+        ensures seen { seen_in self.new ≡ record (seen_in self.old) {
+          ops = self.old.made ++ record { got = got; put = put; core = self.old.core; k = length self.old.made; addr = addr; kind = kind; len = len } ∷ [];
+        } }
         ensures ops { self.new.ops ≡ self.old.ops }
         ensures made { length self.new.made ≡ length self.old.made + 1 }
         ensures room { room_in self.old ≤ room_in self.new + 1 }

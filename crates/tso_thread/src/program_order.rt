@@ -32,7 +32,8 @@ pub fn count_of(order: &[Op], c: u32) -> usize
 /// Puts an operation of the core to its number, if that is among the numbers that there are.
 fn put_by_number(ops: &mut [Op], op: &Op, core: u32)
     ensures length { length ops.new ≡ length ops.old }
-    ensures placed { (k : ℕ) → k < length ops.old → slice_index_or ops.new k no_op ≡ (if is_number core k op.now then op.now else slice_index_or ops.old k no_op) }
+    ensures placed { (k : ℕ) → k < length ops.old
+        → slice_index_or ops.new k no_op ≡ (if is_number core k op.now then op.now else slice_index_or ops.old k no_op) }
 {
     if op.core != core {
         return;

@@ -61,7 +61,9 @@ fn instruction(arch: &mut Arch, replay: &mut Replay) -> Did
     requires instructions { arch.old.n + 1 < 2 ^ 32 }
     requires operations { arch.old.k + 1 < 2 ^ 32 }
     requires room { 0 < room_in replay.old }
-    ensures does { Does replay.old.core (replay_answers (answering_in replay.old)) (effect_at_pc replay.old.program.now.setup.now replay.old.core (state_of arch.old (seen_in replay.old))) result (run_seen arch.old (seen_in replay.old)) (run_seen arch.new (seen_in replay.new)) }
+    ensures does { Does replay.old.core (replay_answers (answering_in replay.old))
+        (effect_at_pc replay.old.program.now.setup.now replay.old.core (state_of arch.old (seen_in replay.old)))
+        result (run_seen arch.old (seen_in replay.old)) (run_seen arch.new (seen_in replay.new)) }
     ensures ops { replay.new.ops.now ≡ replay.old.ops.now }
     ensures counts { Counts result arch.old arch.new (seen_in replay.old) (seen_in replay.new) (room_in replay.old) (room_in replay.new) }
     ensures asks { Asks (seen_in replay.old).site result }
@@ -111,7 +113,8 @@ impl<'a> Thread<'a> {
         requires register { rd < 32 }
         ensures unlike { result ≡ false → read_next is_atomic (answering_in self.old.replay) addr len ≡ None }
         ensures like { result ≡ true → read_next is_atomic (answering_in self.old.replay) addr len ≡ Some (got_next (answering_in self.old.replay)) }
-        ensures made { result ≡ true → Exchanges addr len new rd (got_next (answering_in self.old.replay)) self.old.arch self.new.arch (seen_in self.old.replay) (seen_in self.new.replay) }
+        ensures made { result ≡ true → Exchanges addr len new rd (got_next (answering_in self.old.replay))
+            self.old.arch self.new.arch (seen_in self.old.replay) (seen_in self.new.replay) }
         ensures ops { self.new.replay.ops.now ≡ self.old.replay.ops.now }
         ensures room { room_in self.old.replay ≤ room_in self.new.replay + 1 }
         ensures halt { self.new.halt ≡ self.old.halt }
@@ -129,8 +132,10 @@ impl<'a> Thread<'a> {
     fn step(&mut self) -> bool
         requires ready { IsThreadOf (setup_in self.old) self.old.replay.core self.old.replay.ops.now 1 self.old }
         requires going { self.old.halt ≡ None }
-        ensures goes { result ≡ true → (setup : Setup) (core : ℕ) (ops : List Op) (n left : ℕ) → IsAt setup core ops n (left + 1) self.old → IsAt setup core ops (n + 1) left self.new }
-        ensures apart { result ≡ false → (setup : Setup) (core : ℕ) (ops : List Op) (n left : ℕ) → IsAt setup core ops n (left + 1) self.old → HasNoThread setup core ops (n + 1) }
+        ensures goes { result ≡ true → (setup : Setup) (core : ℕ) (ops : List Op) (n left : ℕ)
+            → IsAt setup core ops n (left + 1) self.old → IsAt setup core ops (n + 1) left self.new }
+        ensures apart { result ≡ false → (setup : Setup) (core : ℕ) (ops : List Op) (n left : ℕ)
+            → IsAt setup core ops n (left + 1) self.old → HasNoThread setup core ops (n + 1) }
     {
         match instruction(&mut self.arch, &mut self.replay) {
             Did::Retired => self.replay.agrees(),

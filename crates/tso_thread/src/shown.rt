@@ -146,7 +146,9 @@ fn shows_state(
     shown: &CoreResult,
 ) -> bool
     requires sound { IsSound thread.now.arch }
-    ensures { IsTrue result ↔ ShowsState setup.now (record { core = core; result = shown.now; ops = thread.now.replay.ops.now; transfers = transfers.now }) (run_in thread.now).state }
+    ensures { IsTrue result ↔ ShowsState setup.now
+        (record { core = core; result = shown.now; ops = thread.now.replay.ops.now; transfers = transfers.now })
+        (run_in thread.now).state }
 {
     let replay = &thread.replay;
     shows_output(replay.out.as_slice(), shown.out.as_slice())
