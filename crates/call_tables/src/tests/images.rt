@@ -40,15 +40,24 @@ static IMAGE: [(usize, u32); 29] = [
     (16144, 0x91d0_2000),
 ];
 
+/// The file has this word, big-endian, at this place.
+fn has_word(file: &[u8], at: usize, word: u32) -> bool {
+    match file.get(at..) {
+        Some(rest) => rest.starts_with(&word.to_be_bytes()),
+        None => false,
+    }
+}
+
 #[test]
 fn an_image_is_generated(rt: HostRuntime) -> Result<(), Fail> {
     let alloc = rt.alloc();
     let words = words_of(alloc, "leon3ft gen 7 4000")?;
+    let mut files = MemFiles::new(alloc, &[])?;
     let mut out = MemSink::new(alloc, 20_000, &[])?;
-    let status = plain_call(alloc, &words, &mut MemFiles::new(alloc, &[])?, &mut out);
+    let status = plain_call(alloc, &words, &mut files, &mut out);
     assert!(rt; status == 0 && out.taken().len() == 16_148);
     for &(at, word) in &IMAGE {
-        expect(&rt, at, out.taken()[at..].starts_with(&word.to_be_bytes()));
+        expect(&rt, at, has_word(out.taken(), at, word));
     }
     Ok(())
 }
