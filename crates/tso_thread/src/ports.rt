@@ -143,7 +143,8 @@ impl<'a> Replay<'a> {
     pub(crate) fn note(&mut self, kind: OpKind, addr: u32, len: u8, got: u64, put: u64)
         requires room { 0 < room_in self.old }
         ensures seen { seen_in self.new ≡ record (seen_in self.old) {
-          ops = self.old.made ++ record { got = got; put = put; core = self.old.core; k = length self.old.made; addr = addr; kind = kind; len = len } ∷ [];
+          ops = self.old.made
+              ++ record { got = got; put = put; core = self.old.core; k = length self.old.made; addr = addr; kind = kind; len = len } ∷ [];
         } }
         ensures ops { self.new.ops ≡ self.old.ops }
         ensures made { length self.new.made ≡ length self.old.made + 1 }
