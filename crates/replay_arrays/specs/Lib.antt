@@ -1,0 +1,2 @@
+pub mod CellsState
+pub mod CellsInside
