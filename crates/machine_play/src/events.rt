@@ -7,7 +7,7 @@ ghost use Rattle.lf_model.specs.declared.setup.Actor.TheVariants as actors;
 ghost use Rattle.machine_play.specs.Moved.{IsSound, IsMoved, GoesRound, round_of, IsCoreOver, scrubber_over, is_over, Advances};
 ghost use Rattle.machine_play.specs.OneCore.{IsBeside, StepsWithTurn, DrainsAtEnd, MakesStep, MovesCore, DrainsCore};
 
-use crate::machine::{has_ended, Machine};
+use crate::machine::{Machine, has_ended};
 use ahb_bus::Bus;
 use core_parts::CoreState;
 use leon_core::Core;

@@ -56,10 +56,7 @@ static CONFIGS: [ConfigRow; 43] = [
         b"machine.watch = [0x40000002, 1.0]",
         Some(ConfigErr::Kind(Key::Watch)),
     ),
-    (
-        b"machine = { ram = 65536, watch = [0x4000FFFC] }",
-        None,
-    ),
+    (b"machine = { ram = 65536, watch = [0x4000FFFC] }", None),
     (
         b"machine = { ram = 65536, watch = [0x40010000] }",
         Some(ConfigErr::Range(Key::Watch)),
@@ -129,10 +126,7 @@ static CONFIGS: [ConfigRow; 43] = [
         b"scrub = { length = 0, turns = 1000001 }",
         Some(ConfigErr::Range(Key::ScrubLength)),
     ),
-    (
-        b"machine.cores = 9\nscrub.line = 32",
-        Some(ConfigErr::Key),
-    ),
+    (b"machine.cores = 9\nscrub.line = 32", Some(ConfigErr::Key)),
 ];
 
 #[test]
@@ -185,7 +179,10 @@ fn configuration_has_its_values(rt: HostRuntime) -> Result<(), Fail> {
     for (row, (value, want)) in rows.iter().enumerate() {
         expect(&rt, row, value == want);
     }
-    assert_eq!(rt; config.watch.as_slice(), [0x4000_0004, 0x4000_0000].as_slice());
+    assert_eq!(rt;
+        config.watch.as_slice(),
+        [0x4000_0004, 0x4000_0000].as_slice()
+    );
     Ok(())
 }
 
@@ -210,17 +207,95 @@ reg 1 0 20 30";
     let is_spelled = matches!(
         flips.as_slice(),
         [
-            Flip::Mem { turn: 4_294_967_295, addr: 0x4000_FFFC, bit: 38 },
-            Flip::Reg { core: 2, step: 499, cell: 135, bit: 38 },
-            Flip::Tag { core: 2, step: 499, fetch: true, way: 1, set: 7, byte: 3, bit: 8 },
-            Flip::Tag { core: 2, step: 499, fetch: false, way: 3, set: 255, byte: 3, bit: 8 },
-            Flip::Line { core: 2, step: 499, fetch: true, way: 1, set: 7, byte: 31, bit: 8 },
-            Flip::Line { core: 2, step: 499, fetch: false, way: 3, set: 255, byte: 31, bit: 8 },
-            Flip::Tag { core: 1, step: 0, fetch: true, way: 1, set: 5, byte: 2, bit: 6 },
-            Flip::Tag { core: 1, step: 0, fetch: false, way: 2, set: 15, byte: 3, bit: 7 },
-            Flip::Line { core: 1, step: 0, fetch: true, way: 1, set: 5, byte: 20, bit: 6 },
-            Flip::Line { core: 1, step: 0, fetch: false, way: 2, set: 15, byte: 30, bit: 7 },
-            Flip::Reg { core: 1, step: 0, cell: 20, bit: 30 },
+            Flip::Mem {
+                turn: 4_294_967_295,
+                addr: 0x4000_FFFC,
+                bit: 38
+            },
+            Flip::Reg {
+                core: 2,
+                step: 499,
+                cell: 135,
+                bit: 38
+            },
+            Flip::Tag {
+                core: 2,
+                step: 499,
+                fetch: true,
+                way: 1,
+                set: 7,
+                byte: 3,
+                bit: 8
+            },
+            Flip::Tag {
+                core: 2,
+                step: 499,
+                fetch: false,
+                way: 3,
+                set: 255,
+                byte: 3,
+                bit: 8
+            },
+            Flip::Line {
+                core: 2,
+                step: 499,
+                fetch: true,
+                way: 1,
+                set: 7,
+                byte: 31,
+                bit: 8
+            },
+            Flip::Line {
+                core: 2,
+                step: 499,
+                fetch: false,
+                way: 3,
+                set: 255,
+                byte: 31,
+                bit: 8
+            },
+            Flip::Tag {
+                core: 1,
+                step: 0,
+                fetch: true,
+                way: 1,
+                set: 5,
+                byte: 2,
+                bit: 6
+            },
+            Flip::Tag {
+                core: 1,
+                step: 0,
+                fetch: false,
+                way: 2,
+                set: 15,
+                byte: 3,
+                bit: 7
+            },
+            Flip::Line {
+                core: 1,
+                step: 0,
+                fetch: true,
+                way: 1,
+                set: 5,
+                byte: 20,
+                bit: 6
+            },
+            Flip::Line {
+                core: 1,
+                step: 0,
+                fetch: false,
+                way: 2,
+                set: 15,
+                byte: 30,
+                bit: 7
+            },
+            Flip::Reg {
+                core: 1,
+                step: 0,
+                cell: 20,
+                bit: 30
+            },
         ]
     );
     assert!(rt; is_spelled);
@@ -282,9 +357,17 @@ static SCRIPTS: [FaultRow; 53] = [
     (b"idat 0 0 0 0 256 0", 1, TextWhy::Range),
     (b"idat 0 0 0 0 0 256", 1, TextWhy::Range),
     // The first of several faulty lines, where each line counts.
-    (b"itag 0 0 0 0 0 0\n\ndtag 0 0 4 0 0 0\nidat\nx", 3, TextWhy::Range),
+    (
+        b"itag 0 0 0 0 0 0\n\ndtag 0 0 4 0 0 0\nidat\nx",
+        3,
+        TextWhy::Range,
+    ),
     (b"# x\nddat\nitag 0 0 0 0 0 9", 2, TextWhy::Count),
-    (b"ddat 0 0 0 0 0 0\r\n\tdtag a 0 0 0 0 0\r\n", 2, TextWhy::Number),
+    (
+        b"ddat 0 0 0 0 0 0\r\n\tdtag a 0 0 0 0 0\r\n",
+        2,
+        TextWhy::Number,
+    ),
     (b"\n\n\nscrub 1\nitag", 4, TextWhy::Word),
 ];
 
@@ -316,13 +399,41 @@ fn events_are_spelled(rt: HostRuntime) -> Result<(), Fail> {
     let is_spelled = matches!(
         events.as_slice(),
         [
-            Event { actor: Actor::Core, core: 0, count: 1 },
-            Event { actor: Actor::Core, core: 2, count: 8_000_000 },
-            Event { actor: Actor::Drain, core: 1, count: 1 },
-            Event { actor: Actor::Drain, core: 2, count: 3 },
-            Event { actor: Actor::Scrub, core: 0, count: 1 },
-            Event { actor: Actor::Scrub, core: 0, count: 8_000_000 },
-            Event { actor: Actor::Core, core: 1, count: 1 },
+            Event {
+                actor: Actor::Core,
+                core: 0,
+                count: 1
+            },
+            Event {
+                actor: Actor::Core,
+                core: 2,
+                count: 8_000_000
+            },
+            Event {
+                actor: Actor::Drain,
+                core: 1,
+                count: 1
+            },
+            Event {
+                actor: Actor::Drain,
+                core: 2,
+                count: 3
+            },
+            Event {
+                actor: Actor::Scrub,
+                core: 0,
+                count: 1
+            },
+            Event {
+                actor: Actor::Scrub,
+                core: 0,
+                count: 8_000_000
+            },
+            Event {
+                actor: Actor::Core,
+                core: 1,
+                count: 1
+            },
         ]
     );
     assert!(rt; is_spelled);
