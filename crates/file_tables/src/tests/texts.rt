@@ -186,6 +186,74 @@ fn configuration_has_its_values(rt: HostRuntime) -> Result<(), Fail> {
     Ok(())
 }
 
+/// The kind of a flip, and its numbers in the order of its line: 0 memory, 1 registers, 2 tags and 3 lines of the fetch cache, 4 tags and
+/// 5 lines of the data cache.
+fn numbers_of(flip: Flip) -> [u32; 7] {
+    match flip {
+        Flip::Mem { turn, addr, bit } => [0, turn, addr, u32::from(bit), 0, 0, 0],
+        Flip::Reg {
+            core,
+            step,
+            cell,
+            bit,
+        } => [1, core, step, u32::from(cell), u32::from(bit), 0, 0],
+        Flip::Tag {
+            core,
+            step,
+            fetch,
+            way,
+            set,
+            byte,
+            bit,
+        } => {
+            let kind = if fetch { 2 } else { 4 };
+            [
+                kind,
+                core,
+                step,
+                u32::from(way),
+                u32::from(set),
+                u32::from(byte),
+                u32::from(bit),
+            ]
+        }
+        Flip::Line {
+            core,
+            step,
+            fetch,
+            way,
+            set,
+            byte,
+            bit,
+        } => {
+            let kind = if fetch { 3 } else { 5 };
+            [
+                kind,
+                core,
+                step,
+                u32::from(way),
+                u32::from(set),
+                u32::from(byte),
+                u32::from(bit),
+            ]
+        }
+    }
+}
+
+static FLIPS: [[u32; 7]; 11] = [
+    [0, 4_294_967_295, 0x4000_FFFC, 38, 0, 0, 0],
+    [1, 2, 499, 135, 38, 0, 0],
+    [2, 2, 499, 1, 7, 3, 8],
+    [4, 2, 499, 3, 255, 3, 8],
+    [3, 2, 499, 1, 7, 31, 8],
+    [5, 2, 499, 3, 255, 31, 8],
+    [2, 1, 0, 1, 5, 2, 6],
+    [4, 1, 0, 2, 15, 3, 7],
+    [3, 1, 0, 1, 5, 20, 6],
+    [5, 1, 0, 2, 15, 30, 7],
+    [1, 1, 0, 20, 30, 0, 0],
+];
+
 #[test]
 fn flips_are_spelled(rt: HostRuntime) -> Result<(), Fail> {
     let config = read_config(rt.alloc(), MACHINE)?;
@@ -204,101 +272,14 @@ idat 1 0 1 5 20 6
 ddat 1 0 2 15 30 0000000007
 reg 1 0 20 30";
     let flips = read_script(rt.alloc(), script, &config)?;
-    let is_spelled = matches!(
-        flips.as_slice(),
-        [
-            Flip::Mem {
-                turn: 4_294_967_295,
-                addr: 0x4000_FFFC,
-                bit: 38
-            },
-            Flip::Reg {
-                core: 2,
-                step: 499,
-                cell: 135,
-                bit: 38
-            },
-            Flip::Tag {
-                core: 2,
-                step: 499,
-                fetch: true,
-                way: 1,
-                set: 7,
-                byte: 3,
-                bit: 8
-            },
-            Flip::Tag {
-                core: 2,
-                step: 499,
-                fetch: false,
-                way: 3,
-                set: 255,
-                byte: 3,
-                bit: 8
-            },
-            Flip::Line {
-                core: 2,
-                step: 499,
-                fetch: true,
-                way: 1,
-                set: 7,
-                byte: 31,
-                bit: 8
-            },
-            Flip::Line {
-                core: 2,
-                step: 499,
-                fetch: false,
-                way: 3,
-                set: 255,
-                byte: 31,
-                bit: 8
-            },
-            Flip::Tag {
-                core: 1,
-                step: 0,
-                fetch: true,
-                way: 1,
-                set: 5,
-                byte: 2,
-                bit: 6
-            },
-            Flip::Tag {
-                core: 1,
-                step: 0,
-                fetch: false,
-                way: 2,
-                set: 15,
-                byte: 3,
-                bit: 7
-            },
-            Flip::Line {
-                core: 1,
-                step: 0,
-                fetch: true,
-                way: 1,
-                set: 5,
-                byte: 20,
-                bit: 6
-            },
-            Flip::Line {
-                core: 1,
-                step: 0,
-                fetch: false,
-                way: 2,
-                set: 15,
-                byte: 30,
-                bit: 7
-            },
-            Flip::Reg {
-                core: 1,
-                step: 0,
-                cell: 20,
-                bit: 30
-            },
-        ]
-    );
-    assert!(rt; is_spelled);
+    assert_eq!(rt; flips.as_slice().len(), FLIPS.len());
+    for (row, flip) in flips.as_slice().iter().enumerate() {
+        expect(
+            &rt,
+            row,
+            row < FLIPS.len() && numbers_of(*flip) == FLIPS[row],
+        );
+    }
     Ok(())
 }
 
@@ -389,6 +370,26 @@ fn scripts_are_refused(rt: HostRuntime) -> Result<(), Fail> {
     Ok(())
 }
 
+/// The actor of an event, its core and its count: 0 a core, 1 a drain, 2 the scrubber.
+fn numbers_of_event(event: Event) -> [u32; 3] {
+    let actor = match event.actor {
+        Actor::Core => 0,
+        Actor::Drain => 1,
+        Actor::Scrub => 2,
+    };
+    [actor, event.core, event.count]
+}
+
+static EVENTS: [[u32; 3]; 7] = [
+    [0, 0, 1],
+    [0, 2, 8_000_000],
+    [1, 1, 1],
+    [1, 2, 3],
+    [2, 0, 1],
+    [2, 0, 8_000_000],
+    [0, 1, 1],
+];
+
 #[test]
 fn events_are_spelled(rt: HostRuntime) -> Result<(), Fail> {
     let config = read_config(rt.alloc(), MACHINE)?;
@@ -396,47 +397,14 @@ fn events_are_spelled(rt: HostRuntime) -> Result<(), Fail> {
 # a comment
  drain\t1\r\ndrain 2 0000000003\nscrub\nscrub 8000000 \n\tcore 1 1";
     let events = read_schedule(rt.alloc(), schedule, &config)?;
-    let is_spelled = matches!(
-        events.as_slice(),
-        [
-            Event {
-                actor: Actor::Core,
-                core: 0,
-                count: 1
-            },
-            Event {
-                actor: Actor::Core,
-                core: 2,
-                count: 8_000_000
-            },
-            Event {
-                actor: Actor::Drain,
-                core: 1,
-                count: 1
-            },
-            Event {
-                actor: Actor::Drain,
-                core: 2,
-                count: 3
-            },
-            Event {
-                actor: Actor::Scrub,
-                core: 0,
-                count: 1
-            },
-            Event {
-                actor: Actor::Scrub,
-                core: 0,
-                count: 8_000_000
-            },
-            Event {
-                actor: Actor::Core,
-                core: 1,
-                count: 1
-            },
-        ]
-    );
-    assert!(rt; is_spelled);
+    assert_eq!(rt; events.len(), EVENTS.len());
+    for (row, event) in events.iter().enumerate() {
+        expect(
+            &rt,
+            row,
+            row < EVENTS.len() && numbers_of_event(*event) == EVENTS[row],
+        );
+    }
     let none = read_schedule(rt.alloc(), b"# core 0\r\n\r\n\t\n", &config)?;
     assert!(rt; none.is_empty());
     Ok(())
