@@ -9,7 +9,7 @@ ghost use Rattle.coded_words.specs.WordState.{answer_of, flip_answer, IsInBudget
 
 use crate::history::{Empty, History, How, Naming, Rewrite, Strike};
 use crate::past::{NamingThen, Past};
-use edac_code::{Read39, syndrome39};
+use edac_code::Read39;
 use ft_cells::{Cell, Flipped, Word39};
 use ghost_value::Ghost;
 use std::marker::Model;
@@ -57,7 +57,7 @@ impl Word {
     pub(crate) fn syndrome(&self) -> u8
         ensures { result ≡ syndrome self.now.history }
     {
-        syndrome39(self.cell.bits())
+        self.cell.bits().syndrome()
     }
 
     /// Whether flips stand in it.

@@ -2,3 +2,4 @@ pub mod Tables
 pub mod Checks
 pub mod Syndromes
 pub mod Answered
+pub mod KeptBits

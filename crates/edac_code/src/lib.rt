@@ -9,8 +9,10 @@ ghost use Rattle.edac_code.specs.Code.{check_bit, check_bits, code, syndrome, da
 ghost use Rattle.edac_code.specs.Reading.{ReadsBySyndrome, ReadsStruck, ReadsByTurnedBits, HasStruckSyndrome, IsSumOfTurnedBits};
 
 mod answer;
+mod coded;
 
 pub use answer::Read39;
+pub use coded::Coded39;
 use lf_num::odd64;
 
 /// For each check bit, the data bits that it sums.
@@ -28,7 +30,7 @@ const CHECKED_BITS: [u32; 7] = [
 const INVERTED_CHECKS: u8 = 0x0c;
 
 /// For each bit of a cell, the check bits in which it takes part.
-const COLUMNS: [u8; 39] = [
+static COLUMNS: [u8; 39] = [
     0x4f, 0x4a, 0x52, 0x54, 0x57, 0x58, 0x5b, 0x5d, 0x23, 0x25, 0x26, 0x29, 0x2a, 0x2c, 0x31, 0x34,
     0x0e, 0x0b, 0x13, 0x15, 0x16, 0x19, 0x1a, 0x1c, 0x62, 0x64, 0x67, 0x68, 0x6b, 0x6d, 0x70, 0x75,
     0x01, 0x02, 0x04, 0x08, 0x10, 0x20, 0x40,
@@ -51,6 +53,15 @@ fn check_bits(word: u32) -> u8
         bits += check_bit(word, j) << j;
     }
     bits
+}
+
+/// The check bits in which a bit of a cell takes part.
+#[tactic(auto, unfolding(lf_num::specs::Columns::columns, lf_num::specs::Columns::column))]
+fn column(bit: u8) -> u8
+    requires { bit < 39 }
+    ensures { result ≡ column bit }
+{
+    COLUMNS[bit as usize]
 }
 
 fn place_of(columns: &[u8], syndrome: u8) -> Option<usize>

@@ -32,6 +32,7 @@ impl<P: Protect> Model for Cell<P> {
 
 impl<P: Protect> Cell<P> {
     /// The cell of a value that was just written.
+    #[inline]
     pub fn new(v: P::Value) -> Cell<P>
         ensures { result ≡ fresh v }
     {
@@ -43,6 +44,7 @@ impl<P: Protect> Cell<P> {
     }
 
     /// Writes a value anew.
+    #[inline]
     pub fn write(&mut self, v: P::Value)
         ensures { self.new ≡ fresh v }
     {

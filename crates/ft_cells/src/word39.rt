@@ -1,7 +1,7 @@
 ghost use Rattle.std.specs.Prelude.{◌≡◌, true};
 
 use crate::protect::Protect;
-use edac_code::{Read39, encode39, read39};
+use edac_code::{Coded39, Read39};
 
 /// A word under the (39,32) code: one turned bit is put right, two are detected. Two flips are taken between two writes.
 #[derive(Clone, Copy, Debug)]
@@ -10,12 +10,13 @@ pub struct Word39;
 impl Protect for Word39 {
     ghost use Rattle.ft_cells.specs.Codes.{is_word, shown_word, is_clean_word};
     ghost use Rattle.edac_code.specs.Code.{code};
+    ghost use Rattle.edac_code.specs.Kept.{bits_of};
     ghost use Rattle.edac_code.specs.Reading.{read_of};
     ghost use Rattle.ft_cells.specs.Laws.{word_fits, word_reads_back, word_one_flip, word_two_flips, word_turned_back};
 
     type Value = u32;
 
-    type Code = u64;
+    type Code = Coded39;
 
     type Answer = Read39;
 
@@ -27,7 +28,7 @@ impl Protect for Word39 {
 
     ghost BUDGET = { 2 };
 
-    ghost number = { λ bits. bits };
+    ghost number = { bits_of };
 
     ghost is_value = { is_word };
 
@@ -49,19 +50,21 @@ impl Protect for Word39 {
 
     ghost turned_back = { word_turned_back };
 
-    fn fresh(v: u32) -> u64 {
-        encode39(v)
+    #[inline]
+    fn fresh(v: u32) -> Coded39 {
+        Coded39::of(v)
     }
 
-    fn unstruck(c: u64) -> Read39 {
-        Read39::Clean((c % (1 << 32)) as u32)
+    #[inline]
+    fn unstruck(c: Coded39) -> Read39 {
+        Read39::Clean(c.word())
     }
 
-    fn read(c: u64) -> Read39 {
-        read39(c)
+    fn read(c: Coded39) -> Read39 {
+        c.read()
     }
 
-    fn turn(c: u64, bit: u8) -> u64 {
-        c ^ (1 << bit)
+    fn turn(c: Coded39, bit: u8) -> Coded39 {
+        c.turned(bit)
     }
 }

@@ -44,11 +44,11 @@ fn words_under_the_code(rt: HostRuntime) {
 fn words_at_their_budget(rt: HostRuntime) {
     let mut cell = word(&rt, 0x0000_005a, &[0, 0]);
     assert!(rt; cell.flip(1) == Flipped::Declined(2));
-    assert!(rt; cell.bits() == 0x1e_0000_005a);
+    assert!(rt; cell.bits().bits() == 0x1e_0000_005a);
     cell.write(0x0000_0077);
     assert!(rt; !cell.is_struck());
     flip(&rt, &mut cell, 1);
-    assert!(rt; cell.bits() == 0x0f_0000_0075);
+    assert!(rt; cell.bits().bits() == 0x0f_0000_0075);
     assert!(rt; cell.read() == Read39::Fixed(0x0000_0077, 1));
 }
 

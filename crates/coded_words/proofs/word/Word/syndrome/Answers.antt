@@ -7,5 +7,5 @@ pub returns : goal.returns
 returns c =
     let cell = c.self.inside.cell in
     rw (← c.self.view_is)
-    (c.syndrome39.ensures.struck cell.value cell.toggled (ltb-true cell.value (2 ^ 32) c.bits.ensures.value) c.bits.ensures.cell.set c.bits.ensures.bits
+    (c.syndrome.ensures.struck cell.value cell.toggled (ltb-true cell.value (2 ^ 32) c.bits.ensures.value) c.bits.ensures.cell.set c.bits.ensures.bits
     ∙ ap columns_sum c.self.invariant.toggled)

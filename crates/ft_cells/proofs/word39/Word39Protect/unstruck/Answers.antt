@@ -6,4 +6,4 @@ use Rattle.edac_code.proofs.Syndromes.{data_of-code}
 use Rattle.ft_cells.proofs.word39.Word39Protect.unstruck.Goals as goal
 
 pub returns : goal.returns
-returns c = λ word is same. ap Clean (ap data_of same ∙ data_of-code word (ltb-true word (2 ^ 32) is))
+returns c = λ word is same. ap Clean (c.word.ensures ∙ ap data_of same ∙ data_of-code word (ltb-true word (2 ^ 32) is))
