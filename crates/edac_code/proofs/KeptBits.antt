@@ -1,6 +1,6 @@
 -- The 39 bits of a cell that keeps its word and its syndrome.
 use Rattle.std.proofs.Common.{◌≡◌, ℕ, ◌+◌, ◌-◌, ◌*◌, ◌/◌, ◌%◌, ◌^◌, ◌<◌, ◌≤◌, sym, ap, ap₂, ◌∙◌, arith}
-use Rattle.std.specs.Int.Bits.{bit_xor, xor_assoc, xor_self, xor_zero_l, xor_zero_r}
+use Rattle.std.specs.Int.Bits.{bit_xor, xor_assoc, xor_self, xor_zero_r}
 use Rattle.std.proofs.Math.Nat.{mod-eq_of_lt, mul-mod_left}
 use Rattle.std.proofs.lemmas.Nat.{xor_comm, xor_lt, xor_mod, shr_high, mod_low, pow_below, pow-add}
 use Rattle.lf_num.specs.Columns.{column}
@@ -19,9 +19,6 @@ added_twice checks s =
     ap (λ (x : ℕ). bit_xor x checks) (xor_comm checks s) ∙ xor_assoc s checks checks ∙ ap (bit_xor s) (xor_self checks) ∙ xor_zero_r s
 
 module _ (word s : ℕ) (fits : word < 2 ^ 32) (small : s < 2 ^ 7) where
-  checks : ℕ
-  checks = bit_xor (check_bits word) s
-
   pub cell_of-lt : cell_of word s < 2 ^ 39
   unfolding cell_of
   cell_of-lt = omega (arith, xor_lt 7 (check_bits word) s (check_bits-lt word) small)
@@ -50,6 +47,10 @@ cell_of-parts c =
     ∙ xor_assoc (c / 2 ^ 32) (check_bits (c % 2 ^ 32)) (check_bits (c % 2 ^ 32))
     ∙ ap (bit_xor (c / 2 ^ 32)) (xor_self (check_bits (c % 2 ^ 32))) ∙ xor_zero_r (c / 2 ^ 32) in
     ap (λ (x : ℕ). x * 2 ^ 32 + c % 2 ^ 32) stored ∙ omega arith
+
+pub syndrome-lt : (c : ℕ) → c < 2 ^ 39 → syndrome c < 2 ^ 7
+unfolding syndrome
+syndrome-lt c fits = xor_lt 7 (c / 2 ^ 32) (check_bits (c % 2 ^ 32)) (omega arith) (check_bits-lt (c % 2 ^ 32))
 
 -- the word after a bit is turned: a data bit turns in it, a check bit leaves it
 data_of-turned : (c bit : ℕ) → bit < 32 → data_of (bit_xor c (2 ^ bit)) ≡ bit_xor (data_of c) (2 ^ bit)

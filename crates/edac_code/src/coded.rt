@@ -1,7 +1,7 @@
 ghost use Rattle.std.specs.Prelude.{◌≡◌, ◌≢◌, ◌^◌, ◌<◌, bit_xor};
 
 use crate::answer::Read39;
-use crate::{check_bits, column, struck_bit};
+use crate::{check_bits, column, data, struck_bit, syndrome39};
 
 /// A cell of 39 bits, kept as its word and its syndrome: the check bits are those of the word, turned where the syndrome
 /// has a one. So a cell that was just written has the syndrome 0, and no code is computed for it.
@@ -25,6 +25,17 @@ impl Coded39 {
         ensures fits { bits_of result < 2 ^ 39 }
     {
         Coded39 { word, syndrome: 0 }
+    }
+
+    /// The cell of these 39 bits.
+    pub(crate) fn of_bits(bits: u64) -> Coded39
+        requires { bits < 2 ^ 39 }
+        ensures { bits_of result ≡ bits }
+    {
+        Coded39 {
+            word: data(bits),
+            syndrome: syndrome39(bits),
+        }
     }
 
     /// The 39 bits: the word in bits 0 to 31, the check bits 0 to 6 in bits 32 to 38.

@@ -85,20 +85,6 @@ fn data(cell: u64) -> u32
     (cell & 0xffff_ffff) as u32
 }
 
-fn read_by_syndrome(cell: u64) -> Read39
-    requires { cell < 2 ^ 39 }
-    ensures { ReadsBySyndrome cell result }
-{
-    let syndrome = syndrome39(cell);
-    if syndrome == 0 {
-        return Read39::Clean(data(cell));
-    }
-    match struck_bit(syndrome) {
-        Some(bit) => Read39::Fixed(data(cell ^ (1 << bit)), bit),
-        None => Read39::Bad(syndrome),
-    }
-}
-
 /// The cell that holds `word`: the word in bits 0 to 31, its check bits 0 to 6 in bits 32 to 38.
 pub fn encode39(word: u32) -> u64
     ensures code { result ≡ code word }
@@ -125,5 +111,5 @@ pub fn read39(cell: u64) -> Read39
     ensures struck { ReadsStruck cell result }
     ensures turned { ReadsByTurnedBits cell result }
 {
-    read_by_syndrome(cell)
+    Coded39::of_bits(cell).read()
 }
