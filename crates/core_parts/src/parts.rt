@@ -65,6 +65,7 @@ impl Parts {
     }
 
     /// A step begins: the flips of the script that are for this core, and for this step, strike.
+    #[inline(always)]
     pub fn begin_step(&mut self, plan: &mut FlipPlan)
         requires planned { IsPlanned (Owner.Core self.old.record.core) self.old.site.flips self.old.record.steps plan.old }
         requires runs { CanRun self.old.record.steps 0 self.old }

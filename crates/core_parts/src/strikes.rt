@@ -47,6 +47,8 @@ fn strike_cache(arrays: &mut Arrays, fetch: bool, unit: Unit, strike: Strike)
 }
 
 /// A flip of the script strikes the arrays of a core.
+#[cold]
+#[inline(never)]
 fn strike(arrays: &mut Arrays, strike: Strike)
     requires { MayStrike arrays.old strike }
     ensures { arrays.new ≡ with_arrays arrays.old (with_strike (arrays_of arrays.old) strike) }
@@ -74,6 +76,7 @@ fn strike(arrays: &mut Arrays, strike: Strike)
 }
 
 /// The flips of the next step of a core strike its arrays, in the order of the script. `made` is what the core made so far.
+#[inline(always)]
 pub fn strike_due(arrays: &mut Arrays, plan: &mut FlipPlan, site: &Site, made: &Record)
     requires planned { IsPlanned (Owner.Core made.now.core) site.now.flips made.now.steps plan.old }
     requires units { IsFor made.now.core site.now.flips arrays.old }

@@ -53,6 +53,7 @@ fn end_step(made: &mut Record, quiet: &mut u32, did: Did)
 
 impl Core {
     /// Begins a step: the script's flips for it strike the arrays of the core.
+    #[inline(always)]
     pub fn start_step(&mut self)
         requires { MayStep self.old }
         ensures started { self.new ≡ started self.old }

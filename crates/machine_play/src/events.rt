@@ -96,6 +96,7 @@ impl Machine {
     }
 
     /// The scrubber makes its next turn, if one is left.
+    #[inline(always)]
     fn scrub_event(&mut self)
         requires { IsSound self.old }
         ensures moved { IsMoved scrubbed self.old self.new }

@@ -321,6 +321,8 @@ fn control<P: Ports>(a: &mut Arch, name: MemName, rd: u8, p: &mut P) -> Did
 
 /// An alternate form: in a plain address space it does what its plain form does.
 #[tactic(auto, unfolding(lf_model::specs::Effects::effect))]
+#[cold]
+#[inline(never)]
 pub fn alternate<P: Ports>(
     a: &mut Arch,
     name: MemName,

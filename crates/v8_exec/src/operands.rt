@@ -33,6 +33,7 @@ fn extended(simm13: u32) -> u32
 
 /// Register `n` of the current window, where register 0 is 0.
 #[tactic(auto, unfolding(crate::specs::Touching::read_of))]
+#[inline(always)]
 pub fn read_register<P: Ports>(a: &Arch, n: u8, p: &mut P) -> Result<u32, RegBad>
     requires window { a.now.ctl.cwp < 8 }
     requires register { n < 32 }
@@ -50,6 +51,7 @@ pub fn read_register<P: Ports>(a: &Arch, n: u8, p: &mut P) -> Result<u32, RegBad
 }
 
 /// The value of the second operand.
+#[inline(always)]
 fn read_source<P: Ports>(a: &Arch, src: Src, p: &mut P) -> Result<u32, RegBad>
     requires window { a.now.ctl.cwp < 8 }
     requires fields { IsSource src }
@@ -67,6 +69,7 @@ fn read_source<P: Ports>(a: &Arch, src: Src, p: &mut P) -> Result<u32, RegBad>
 }
 
 /// The values of the operands, rs1 first.
+#[inline(always)]
 pub fn read_operands<P: Ports>(a: &Arch, rs1: u8, src: Src, p: &mut P) -> Result<Operands, RegBad>
     requires window { a.now.ctl.cwp < 8 }
     requires register { rs1 < 32 }
@@ -87,6 +90,7 @@ pub fn read_operands<P: Ports>(a: &Arch, rs1: u8, src: Src, p: &mut P) -> Result
 }
 
 /// Writes register `n` of the current window; register 0 has no effect.
+#[inline(always)]
 pub fn write_register<P: Ports>(a: &Arch, n: u8, value: u32, p: &mut P)
     requires window { a.now.ctl.cwp < 8 }
     requires register { n < 32 }
