@@ -1,5 +1,5 @@
 //! One core of the LEON3FT multiprocessor (GRLIB, LEON3FT): what holds of it from step to step.
 //!
-//! So far the crate has the definitions of what a running core is (`specs/CoreOk.antt`), and laws of its course that need no code.
-//! No function makes a step yet.
+//! The crate has no code. `specs/CoreOk.antt` says what a running core is; the modules of `proofs/` show that what a step leaves of it
+//! keeps that, and what a core that has ended shows.
 #![tactic(auto)]

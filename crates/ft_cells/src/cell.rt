@@ -7,7 +7,7 @@ use crate::protect::Protect;
 use std::marker::Model;
 use std::snapshot::Snapshot;
 
-/// A cell that keeps a value under a code: its real bits, the number of flips that turned one of them since the value was
+/// A cell that keeps a value under a code: the bits of the code, the number of flips that turned one of them since the value was
 /// written, and, for contracts alone, that value. A cell that no flip turned is the encoding of its value.
 #[derive(Drop)]
 pub struct Cell<P: Protect> {
