@@ -1,0 +1,4 @@
+pub mod SlotLists
+pub mod RunLemmas
+pub mod SlotsLemmas
+pub mod SetLemmas
