@@ -1,2 +1,3 @@
 pub mod CellsState
 pub mod CellsInside
+pub mod Striking
