@@ -2,3 +2,4 @@ pub mod SlotLists
 pub mod RunLemmas
 pub mod SlotsLemmas
 pub mod SetLemmas
+pub mod StruckLemmas

@@ -4,3 +4,4 @@ pub mod SlotsInside
 pub mod CacheState
 pub mod CacheInside
 pub mod Keeps
+pub mod KeepsStruck
