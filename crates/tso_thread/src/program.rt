@@ -9,8 +9,8 @@ use text_map::TextMap;
 
 /// The program of a setup, laid out so that each fetch is a search of its text and one read.
 #[derive(Drop)]
-pub(crate) struct Program<'a> {
-    pub(crate) setup: &'a Setup,
+pub struct Program<'a> {
+    pub setup: &'a Setup,
     text: TextMap,
     /// RAM at the start. Text is write-protected, so its words stay these.
     bytes: Vec<u8>,
@@ -27,7 +27,7 @@ impl<'a> Program<'a> {
     /// # Errors
     ///
     /// Memory ran out.
-    pub(crate) fn new(alloc: Global, setup: &'a Setup) -> Result<Program<'a>, AllocError>
+    pub fn new(alloc: Global, setup: &'a Setup) -> Result<Program<'a>, AllocError>
         requires loads { IsLoadable setup.now.config.ram setup.now.image }
         requires small { setup.now.config.ram ≤ 16777216 }
         ensures setup { IfOk result (λ program. program.setup.now ≡ setup.entry.now) }
@@ -38,7 +38,7 @@ impl<'a> Program<'a> {
     }
 
     /// The word at an address, where it is a text word.
-    pub(crate) fn fetch(&self, pc: u32) -> Option<u32>
+    pub fn fetch(&self, pc: u32) -> Option<u32>
         ensures word { result ≡ (if is_text_word self.now.setup.now.image.text pc then Some (word_at self.now.setup.now.image pc) else None) }
     {
         if self.text.is_text_word(pc) {
@@ -49,7 +49,7 @@ impl<'a> Program<'a> {
     }
 
     /// One of these bytes is a text byte.
-    pub(crate) fn touches_text(&self, addr: u32, len: u8) -> bool
+    pub fn touches_text(&self, addr: u32, len: u8) -> bool
         ensures touches { result ≡ touches_text self.now.setup.now.image.text addr len }
     {
         self.text.touches_text(addr, len)
