@@ -1,0 +1,4 @@
+pub mod EffectForm
+pub mod ComesTo
+pub mod NotedTouches
+pub mod FootprintOf
