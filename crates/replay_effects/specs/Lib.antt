@@ -3,6 +3,7 @@ pub mod Operations
 pub mod TrialInside
 pub mod Running
 pub mod Footprints
+pub mod Attempts
 pub mod Tries
 pub mod Shows
 pub mod ThreadInside
