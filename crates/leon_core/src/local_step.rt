@@ -28,6 +28,21 @@ pub(crate) fn phase_after(did: Did) -> Phase
     }
 }
 
+/// A core whose step came to this enters its next phase. Each answer writes its phase by itself, since most steps retire, and that phase has
+/// nothing but its name.
+fn enter_phase(phase: &mut Phase, did: Did)
+    ensures { phase.new ≡ phase_after did }
+{
+    match did {
+        Did::Retired | Did::Turned => *phase = Phase::Between,
+        Did::Need(turn) => *phase = Phase::Needs(turn),
+        Did::Halt(tt) => *phase = Phase::Ended(CoreEnd::Halt(tt)),
+        Did::Stop { tt, place, syn } => {
+            *phase = Phase::Ended(CoreEnd::Stop { tt, place, syn });
+        }
+    }
+}
+
 /// The error trap that stops a core names its bad register cell.
 fn name_cell(registers: &mut RegFile, did: Did)
     requires { NamesCellIn register_cells did }
@@ -75,7 +90,7 @@ impl Core {
         let did = attempt(&mut self.arch, &mut self.parts, self.quiet, self.window);
         name_cell(&mut self.parts.arrays.registers, did);
         end_step(&mut self.parts.record, &mut self.quiet, did);
-        self.phase = phase_after(did);
+        enter_phase(&mut self.phase, did);
         did
     }
 

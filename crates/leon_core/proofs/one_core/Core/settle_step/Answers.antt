@@ -34,8 +34,8 @@ invariant_of-self c =
     let asked =
     asked_then old is did new.arch new.parts t (omega (arith, left)) few c.attempt-did.ensures.turn (made_few old is begun did new.arch new.parts t c.attempt-did.ensures.core) in
     subst IsKept
-    (sym (same_inside old is begun did new.arch new.parts t c.name_cell.new.registers c.end_step.new.made c.end_step.new.quiet c.phase_after-self-inside.result
-    c.name_cell.ensures c.end_step.ensures.ended c.end_step.ensures.quiet c.phase_after-self-inside.ensures))
+    (sym (same_inside old is begun did new.arch new.parts t c.name_cell.new.registers c.end_step.new.made c.end_step.new.quiet c.enter_phase.new.phase
+    c.name_cell.ensures c.end_step.ensures.ended c.end_step.ensures.quiet c.enter_phase.ensures))
     (is_settled old is begun did new.arch new.parts t c.attempt-did.ensures.core c.attempt-did.ensures.runs asked)
 
 pub returns : goal.returns
@@ -47,8 +47,8 @@ returns c =
     let new = c.attempt-did.new in
     let t = c.attempt-did.ensures.tries old.room.named.items in
     let same =
-    same_inside old is begun did new.arch new.parts t c.name_cell.new.registers c.end_step.new.made c.end_step.new.quiet c.phase_after-self-inside.result
-    c.name_cell.ensures c.end_step.ensures.ended c.end_step.ensures.quiet c.phase_after-self-inside.ensures in
+    same_inside old is begun did new.arch new.parts t c.name_cell.new.registers c.end_step.new.made c.end_step.new.quiet c.enter_phase.new.phase
+    c.name_cell.ensures c.end_step.ensures.ended c.end_step.ensures.quiet c.enter_phase.ensures in
     let seen = ap core_seen same ∙ seen_is old is begun did new.arch new.parts t in
     record {
       numbered = c.attempt-did.ensures.core.made ∙ ap (λ (r : RecordState). length r.ops) (sym c.end_step.ensures.ended);
