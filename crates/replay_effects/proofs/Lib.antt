@@ -4,3 +4,4 @@ pub mod NotedTouches
 pub mod FootprintOf
 pub mod FootprintAttempts
 pub mod FootprintCells
+pub mod RetiredRun

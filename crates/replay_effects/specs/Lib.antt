@@ -6,4 +6,5 @@ pub mod Footprints
 pub mod Attempts
 pub mod Tries
 pub mod Shows
+pub mod Exchanges
 pub mod ThreadInside

@@ -1,13 +1,20 @@
 -- How the footprint of an instruction shows in what a trial of it came to.
-use Rattle.std.specs.Prelude.{ℕ, ◌==◌, ◌&&◌, not, Bool, List, [], ◌∷◌, length, Option, Some, None, if◌then◌else◌}
+use Rattle.std.specs.Prelude.{ℕ, ◌==◌, ◌&&◌, ◌||◌, not, is_some, Bool, true, false, List, [], ◌∷◌, length, Option, Some, None, if◌then◌else◌}
 use Rattle.lf_model.specs.State.{cell}
 use Rattle.lf_model.specs.declared.bus.Why.{Why}
 use Rattle.lf_model.specs.declared.step.Did.{Did}
 use Rattle.lf_model.specs.declared.step.Did.TheVariants.{Retired, Turned, Need, Halt, Stop}
 use Rattle.lf_model.specs.declared.step.Turn.{Turn}
 use Rattle.lf_model.specs.declared.step.Turn.TheVariants.{Fetch, Load, Atomic, Drain, Snoop}
+use Rattle.replay_effects.specs.declared.footprint.Access.{Access}
+use Rattle.replay_effects.specs.declared.footprint.AccessKind.{AccessKind}
 use Rattle.replay_effects.specs.declared.footprint.AccessKind.TheVariants as kinds
 use Rattle.replay_effects.specs.declared.tried.Exchange.{Exchange}
+
+abbrev pub is_load_kind : AccessKind → Bool
+is_load_kind kinds.Load = true
+is_load_kind kinds.Store = false
+is_load_kind kinds.Atomic = false
 
 -- an instruction that found traps enabled or not, and left them so, wrote these cells: it took a trap where it disabled traps and
 -- wrote cells
@@ -54,3 +61,11 @@ halt_of (Stop tt_ place syn) = None
 -- the cell of a register of a window; register 0 has none
 abbrev pub cell_of_register : ℕ → ℕ → List ℕ
 cell_of_register window rd = if rd == 0 then [] else cell window rd ∷ []
+
+-- the operation reads memory: it is an atomic, or a load that is noted
+abbrev pub is_load : Option Access → Bool
+is_load None = false
+is_load (Some x) = is_load_kind x.kind
+
+abbrev pub reads_memory : Did → Option Access → Bool
+reads_memory did access = is_some (exchange_of did) || is_load access

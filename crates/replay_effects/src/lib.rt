@@ -2,9 +2,9 @@
 //! bus, no caches, no store buffer and no flip.
 //!
 //! `Thread` is the run of a core so far, with the numbers that its loads and atomics read. `footprint` says what the instruction at PC
-//! reads, accesses and writes, by its effect in the definitions, and leaves the run as it is. So far there is the run at reset; the
-//! call that makes the instruction is to come. `attempt` tries an instruction by its footprint: over `LookUps`, which read and look up
-//! the arrays of the core, it comes to what the course of the core says, and leaves the arrays so. No call takes memory.
+//! reads, accesses and writes, by its effect in the definitions, and leaves the run as it is; `retire` makes it, with the next number.
+//! `attempt` tries an instruction by its footprint: over `LookUps`, which read and look up the arrays of the core, it comes to what the
+//! course of the core says, and leaves the arrays so. No call takes memory.
 #![tactic(auto)]
 
 mod attempting;

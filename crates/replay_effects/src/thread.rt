@@ -1,11 +1,15 @@
-ghost use Rattle.std.specs.Prelude.{◌≡◌, ◌<◌, None, true};
+ghost use Rattle.std.specs.Prelude.{◌≡◌, ◌<◌, ◌+◌, ◌^◌, length, slice_index, None, true};
+ghost use Rattle.std.specs.Int.{from_bool};
+ghost use Rattle.lf_model.specs.Run.{reads_of};
+ghost use Rattle.lf_model.specs.Start.{is_text_word};
 ghost use Rattle.lf_model.specs.State.{reset_control};
-ghost use Rattle.lf_model.specs.Step.{IsSound, came_to};
+ghost use Rattle.lf_model.specs.Step.{IsSound, came_to, state_of};
 ghost use Rattle.lf_model.specs.declared.step.Did.TheVariants.{Need};
 ghost use Rattle.lf_model.specs.declared.step.Turn.TheVariants.{Drain};
 ghost use Rattle.replay_effects.specs.Footprints.{IsFootprint};
 ghost use Rattle.replay_effects.specs.Noted.{nothing_noted, trial_answers};
-ghost use Rattle.replay_effects.specs.Running.{start, next_effect};
+ghost use Rattle.replay_effects.specs.Running.{start, next_effect, FitsAnswer, retired};
+ghost use Rattle.replay_effects.specs.TrialInside.{seen_in};
 ghost use Rattle.replay_effects.specs.Tries.{IsTried};
 
 use crate::footprint::Footprint;
@@ -95,6 +99,20 @@ impl<'a> Thread<'a> {
         }
     }
 
+    /// PC.
+    pub fn pc(&self) -> u32
+        ensures { result ≡ self.now.run.state.ctl.pc }
+    {
+        self.arch.ctl.pc
+    }
+
+    /// PC is a text word.
+    pub fn is_text(&self) -> bool
+        ensures { result ≡ is_text_word self.now.setup.image.text self.now.run.state.ctl.pc }
+    {
+        self.program.fetch(self.arch.ctl.pc).is_some()
+    }
+
     /// The instruction at PC is tried on a copy of the core, where a load reads this number, and a store waits or doesn't.
     fn tried(&self, got: u64, waiting: bool) -> Tried<'a>
         requires going { self.now.run.state.halt ≡ None }
@@ -148,5 +166,53 @@ impl<'a> Thread<'a> {
                 tried.footprint(trap, None)
             }
         }
+    }
+
+    /// The next number that a load or an atomic reads, 0 where none is left.
+    fn next_answer(&self) -> u64
+        ensures { result ≡ slice_index self.now.answers (reads_of self.now.run.ops) }
+    {
+        match self.answers.get(self.read) {
+            Some(got) => *got,
+            None => 0,
+        }
+    }
+
+    /// The run is as an instruction that was tried leaves it, whose operation reads memory or doesn't.
+    fn keep(&mut self, tried: &Tried<'a>, reads: bool)
+        requires sound { IsSound tried.now.arch }
+        requires number { tried.now.arch.core ≡ self.old.core }
+        requires counted { reads_of tried.now.trial.made ≡ reads_of self.old.run.ops + from_bool reads }
+        requires operations { length self.old.run.ops + 1 < 2 ^ 32 }
+        ensures { self.new ≡ record self.old {
+          run = record {
+            state = record (state_of tried.now.arch (seen_in tried.now.trial)) { halt = self.old.run.state.halt };
+            ops = tried.now.trial.made;
+          };
+        } }
+    {
+        self.arch = tried.arch;
+        self.cells = tried.trial.cells;
+        self.out = Ghost::of(&tried.trial.out);
+        self.made = Ghost::of(&tried.trial.made);
+        self.read += usize::from(reads);
+    }
+
+    /// Makes the next instruction, whose load or atomic reads the next number that the core is given.
+    pub fn retire(&mut self)
+        requires going { self.old.run.state.halt ≡ None }
+        requires operations { length self.old.run.ops + 1 < 2 ^ 32 }
+        requires answer { FitsAnswer self.old.answers self.old.run.ops (next_effect self.old).access }
+        ensures { self.new ≡ retired self.old }
+    {
+        let got = self.next_answer();
+        let mut tried = self.tried(got, false);
+        if let Some(tt) = halt_of(tried.did) {
+            self.halt = Some(tt);
+            return;
+        }
+        let reads = tried.reads_memory();
+        tried.complete(got);
+        self.keep(&tried, reads);
     }
 }

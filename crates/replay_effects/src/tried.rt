@@ -1,20 +1,22 @@
-ghost use Rattle.std.specs.Prelude.{◌≡◌, ◌<◌, ◌+◌, ◌^◌, fold, None, Some, false};
+ghost use Rattle.std.specs.Prelude.{◌≡◌, ◌<◌, ◌+◌, ◌^◌, fold, None, Some, IfSome, false};
 ghost use Rattle.lf_model.specs.Run.{effect_at_pc};
 ghost use Rattle.lf_model.specs.Step.{IsSound, Does, state_of, run_seen};
+ghost use Rattle.replay_effects.specs.Exchanges.{Exchanges};
 ghost use Rattle.replay_effects.specs.Noted.{trial_answers, trial_touch};
-ghost use Rattle.replay_effects.specs.Shows.{shows_trap, drain_of, exchange_of, halt_of, cell_of_register};
+ghost use Rattle.replay_effects.specs.Shows.{shows_trap, drain_of, exchange_of, halt_of, cell_of_register, is_load, reads_memory};
 ghost use Rattle.replay_effects.specs.TrialInside.{noted_in, seen_in, room_in};
 ghost use Rattle.v8_exec.specs.Accesses.{Asks};
 ghost use Rattle.v8_exec.specs.Frame.{Counts};
 ghost use Rattle.v8_exec.specs.Touching.{touches_of};
 
 use crate::footprint::{Access, AccessKind, Footprint};
+use crate::made::Operation;
 use crate::trial::Trial;
 use arrayvec::ArrayVec;
-use lf_model::bus::Why;
+use lf_model::bus::{OpKind, Why};
 use lf_model::control::Arch;
 use lf_model::step::{Did, Turn};
-use v8_exec::{cell, exec, fetch_trap};
+use v8_exec::{cell, exec, fetch_trap, finish_atomic};
 
 /// An instruction that was tried: what it came to, and the state registers and the parts of the core then.
 #[derive(Drop)]
@@ -69,6 +71,19 @@ pub(crate) fn halt_of(did: Did) -> Option<u8>
     }
 }
 
+/// It is a load.
+fn is_load(access: Option<Access>) -> bool
+    ensures { result ≡ is_load access }
+{
+    matches!(
+        access,
+        Some(Access {
+            kind: AccessKind::Load,
+            ..
+        })
+    )
+}
+
 /// The cell of a register of a window; register 0 has none.
 fn cells_of_register(window: u8, rd: u8) -> ArrayVec<u8, 2>
     requires window { window < 8 }
@@ -103,6 +118,46 @@ impl<'a> Tried<'a> {
             access: self.trial.access,
             barrier,
             writes: self.trial.writes.take(),
+        }
+    }
+
+    /// Its operation reads memory.
+    pub(crate) fn reads_memory(&self) -> bool
+        ensures { result ≡ reads_memory self.now.did self.now.trial.access }
+    {
+        exchange_of(self.did).is_some() || is_load(self.trial.access)
+    }
+
+    /// An atomic is made, which reads this number.
+    fn exchange_made(&mut self, exchange: Exchange, got: u64)
+        requires sound { IsSound self.old.arch }
+        requires register { exchange.rd < 32 }
+        requires word { got < 2 ^ 32 }
+        ensures { Exchanges exchange got self.old self.new }
+    {
+        let core = self.trial.core;
+        self.arch.n = 0;
+        self.arch.k = 0;
+        finish_atomic(&mut self.arch, exchange.rd, got as u32, &mut self.trial);
+        self.trial.make(&Operation {
+            core,
+            kind: OpKind::Atomic,
+            addr: exchange.access.addr,
+            len: exchange.access.len,
+            got,
+            put: exchange.access.put,
+        });
+    }
+
+    /// An atomic is made, if it is one, which reads this number.
+    pub(crate) fn complete(&mut self, got: u64)
+        requires sound { IsSound self.old.arch }
+        requires exchange { IfSome (exchange_of self.old.did) (λ x. (x.rd < 32) × (got < 2 ^ 32)) }
+        ensures same { exchange_of self.old.did ≡ None → (self.new.arch ≡ self.old.arch) × (seen_in self.new.trial ≡ seen_in self.old.trial) }
+        ensures made { IfSome (exchange_of self.old.did) (λ x. Exchanges x got self.old self.new) }
+    {
+        if let Some(exchange) = exchange_of(self.did) {
+            self.exchange_made(exchange, got);
         }
     }
 
