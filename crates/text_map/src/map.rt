@@ -96,13 +96,24 @@ fn span_at(spans: &[Span], place: usize) -> Option<Span>
     spans.get(place).copied()
 }
 
-/// The first of these spans that ends behind an address.
-fn span_behind(spans: &[Span], addr: u64) -> Option<Span>
+/// The first of these spans that ends behind an address, by a binary search.
+fn search(spans: &[Span], addr: u64) -> Option<Span>
     requires { IsApart spans.now }
     ensures { result ≡ find (ends_after addr) spans.now }
 {
     let place = spans.partition_point(|span| span.end <= addr);
     span_at(spans, place)
+}
+
+/// The first of these spans that ends behind an address. Most images have one span of text, which is found without a search.
+fn span_behind(spans: &[Span], addr: u64) -> Option<Span>
+    requires { IsApart spans.now }
+    ensures { result ≡ find (ends_after addr) spans.now }
+{
+    match spans.first() {
+        Some(first) if addr < first.end => Some(*first),
+        _ => search(spans, addr),
+    }
 }
 
 /// The text of an image, laid out so that an address is found by a binary search. Contracts see it as the ranges of

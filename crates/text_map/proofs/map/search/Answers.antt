@@ -2,7 +2,7 @@ use Rattle.std.proofs.Common.{◌∙◌, leb, rules}
 use Rattle.std.proofs.lemmas.List.Sorted.{IsPartitionPoint-from_clause, IsPartitionedBy-leb}
 use Rattle.text_map.specs.declared.map.Span.{Span}
 use Rattle.text_map.proofs.SpanLemmas.{ends_rise, found_at}
-use Rattle.text_map.proofs.map.span_behind.Goals as goal
+use Rattle.text_map.proofs.map.search.Goals as goal
 
 pub returns : goal.returns
 returns c =
