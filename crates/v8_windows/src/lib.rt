@@ -13,6 +13,42 @@ ghost use Rattle.v8_windows.specs.Windows.{IsInvalid, IsValid};
 /// The number of windows.
 const WINDOWS: u8 = 8;
 
+/// The cells of registers 0 to 31 in each window. The globals come first, and then the outs and locals of each window.
+static CELLS: [[u8; 32]; 8] = [
+    [
+        0, 1, 2, 3, 4, 5, 6, 7, 8, 9, 10, 11, 12, 13, 14, 15, 16, 17, 18, 19, 20, 21, 22, 23, 24,
+        25, 26, 27, 28, 29, 30, 31,
+    ],
+    [
+        0, 1, 2, 3, 4, 5, 6, 7, 24, 25, 26, 27, 28, 29, 30, 31, 32, 33, 34, 35, 36, 37, 38, 39, 40,
+        41, 42, 43, 44, 45, 46, 47,
+    ],
+    [
+        0, 1, 2, 3, 4, 5, 6, 7, 40, 41, 42, 43, 44, 45, 46, 47, 48, 49, 50, 51, 52, 53, 54, 55, 56,
+        57, 58, 59, 60, 61, 62, 63,
+    ],
+    [
+        0, 1, 2, 3, 4, 5, 6, 7, 56, 57, 58, 59, 60, 61, 62, 63, 64, 65, 66, 67, 68, 69, 70, 71, 72,
+        73, 74, 75, 76, 77, 78, 79,
+    ],
+    [
+        0, 1, 2, 3, 4, 5, 6, 7, 72, 73, 74, 75, 76, 77, 78, 79, 80, 81, 82, 83, 84, 85, 86, 87, 88,
+        89, 90, 91, 92, 93, 94, 95,
+    ],
+    [
+        0, 1, 2, 3, 4, 5, 6, 7, 88, 89, 90, 91, 92, 93, 94, 95, 96, 97, 98, 99, 100, 101, 102, 103,
+        104, 105, 106, 107, 108, 109, 110, 111,
+    ],
+    [
+        0, 1, 2, 3, 4, 5, 6, 7, 104, 105, 106, 107, 108, 109, 110, 111, 112, 113, 114, 115, 116,
+        117, 118, 119, 120, 121, 122, 123, 124, 125, 126, 127,
+    ],
+    [
+        0, 1, 2, 3, 4, 5, 6, 7, 120, 121, 122, 123, 124, 125, 126, 127, 128, 129, 130, 131, 132,
+        133, 134, 135, 8, 9, 10, 11, 12, 13, 14, 15,
+    ],
+];
+
 /// The trap of an instruction that would enter an invalid window (SPARC V8, chapter 7, traps).
 #[derive(Clone, Copy, Debug, PartialEq, Eq)]
 pub enum WindowTrap {
@@ -23,8 +59,17 @@ pub enum WindowTrap {
     Underflow,
 }
 
-/// The cell of register `n` in window `cwp` (SPARC V8, chapter 4, windowed registers). The globals come first,
-/// and then the outs and locals of each window.
+/// The cell of register `n` in window `cwp`, by the table.
+fn cell_in_table(cwp: u8, n: u8) -> usize
+    requires window { cwp < 8 }
+    requires register { n < 32 }
+    ensures { result ≡ cell cwp n }
+{
+    let place = CELLS[cwp as usize][n as usize];
+    place as usize
+}
+
+/// The cell of register `n` in window `cwp` (SPARC V8, chapter 4, windowed registers).
 pub fn cell(cwp: u8, n: u8) -> usize
     requires window { cwp < 8 }
     requires register { n < 32 }
@@ -42,12 +87,7 @@ pub fn cell(cwp: u8, n: u8) -> usize
     ensures outs { IsOut n → cell (window_after_save cwp) (n + 16) ≡ result }
     ensures ins { IsIn n → cell (window_after_restore cwp) (n - 16) ≡ result }
 {
-    let n = usize::from(n);
-    if n < 8 {
-        n
-    } else {
-        8 + (16 * usize::from(cwp) + n - 8) % 128
-    }
+    cell_in_table(cwp, n)
 }
 
 fn is_invalid(wim: u32, window: u8) -> bool
