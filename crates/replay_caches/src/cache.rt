@@ -45,7 +45,7 @@ pub struct Cache {
     /// Way `w` of set `s` is slot `s * ways + w`.
     slots: Slots,
     /// The uses of slots so far.
-    uses: u32,
+    uses: u64,
     tag_errors: u8,
     byte_errors: u8,
 }
@@ -194,7 +194,7 @@ impl Cache {
     /// The slot becomes the most recently used.
     fn use_slot(&mut self, i: usize)
         requires slot { i < length self.old.cache.slots }
-        requires room { self.old.cache.uses + 1 < 2 ^ 32 }
+        requires room { self.old.cache.uses + 1 < 2 ^ 64 }
         ensures used { self.new ≡ with_cache (used i self.old.cache) self.old }
         ensures keeps { Keeps 1 self.old self.new }
     {
@@ -206,7 +206,7 @@ impl Cache {
 
     /// Looks up so many bytes at an address.
     pub fn look(&mut self, addr: u32, len: u8) -> LookUp
-        requires { self.old.cache.uses + 1 < 2 ^ 32 }
+        requires { self.old.cache.uses + 1 < 2 ^ 64 }
         ensures answer { result ≡ answer_of (look addr len self.old.cache).answer }
         ensures looked { self.new ≡ with_cache (look addr len self.old.cache).cache self.old }
         ensures keeps { Keeps 1 self.old self.new }
@@ -221,7 +221,7 @@ impl Cache {
     /// The look-up in the slot in which the line is present.
     fn look_in(&mut self, i: usize, addr: u32, len: u8) -> LookUp
         requires slot { i < length self.old.cache.slots }
-        requires room { self.old.cache.uses + 1 < 2 ^ 32 }
+        requires room { self.old.cache.uses + 1 < 2 ^ 64 }
         ensures answer { result ≡ answer_of (look_in addr len i self.old.cache).answer }
         ensures looked { self.new ≡ with_cache (look_in addr len i self.old.cache).cache self.old }
         ensures keeps { Keeps 1 self.old self.new }
@@ -247,7 +247,7 @@ impl Cache {
 
     /// An own store of so many bytes: where its line is present, its bytes in valid words are written. No line is allocated.
     pub fn update(&mut self, addr: u32, len: u8)
-        requires { self.old.cache.uses + 1 < 2 ^ 32 }
+        requires { self.old.cache.uses + 1 < 2 ^ 64 }
         ensures updated { self.new ≡ with_cache (updated addr len self.old.cache) self.old }
         ensures keeps { Keeps 1 self.old self.new }
     {
@@ -261,7 +261,7 @@ impl Cache {
     /// An own store writes its bytes to the line in a slot.
     fn store_in(&mut self, i: usize, addr: u32, len: u8)
         requires slot { i < length self.old.cache.slots }
-        requires room { self.old.cache.uses + 1 < 2 ^ 32 }
+        requires room { self.old.cache.uses + 1 < 2 ^ 64 }
         ensures stored { self.new ≡ with_cache (update_by addr len self.old.cache (Some i)) self.old }
         ensures keeps { Keeps 1 self.old self.new }
     {
@@ -293,7 +293,7 @@ impl Cache {
     /// Fills the line of an address in, with these valid bits, bit `j` for word `j`: into the slot in which it is present, else
     /// the lowest way without a line, else the least recently used way.
     pub fn fill(&mut self, addr: u32, valid: u8)
-        requires { self.old.cache.uses + 1 < 2 ^ 32 }
+        requires { self.old.cache.uses + 1 < 2 ^ 64 }
         ensures filled { self.new ≡ with_cache (filled addr valid self.old.cache) self.old }
         ensures keeps { Keeps 1 self.old self.new }
     {
@@ -304,7 +304,7 @@ impl Cache {
     /// A slot is filled.
     fn fill_slot(&mut self, i: usize, addr: u32, valid: u8)
         requires slot { i < length self.old.cache.slots }
-        requires room { self.old.cache.uses + 1 < 2 ^ 32 }
+        requires room { self.old.cache.uses + 1 < 2 ^ 64 }
         ensures filled { self.new ≡ with_cache (used i (with_slot (filled_slot addr valid) i self.old.cache)) self.old }
         ensures keeps { Keeps 1 self.old self.new }
     {

@@ -180,7 +180,7 @@ impl Slots {
     // ---- what a slot holds
 
     /// When it was last used.
-    pub(crate) fn used(&self, i: usize) -> u32
+    pub(crate) fn used(&self, i: usize) -> u64
         requires { i < length self.now.slots }
         ensures { result ≡ (slot_in i self.now).used }
     {
@@ -231,7 +231,7 @@ impl Slots {
     // ---- what happens to a slot
 
     /// It is used.
-    pub(crate) fn set_used(&mut self, i: usize, at: u32)
+    pub(crate) fn set_used(&mut self, i: usize, at: u64)
         requires { i < length self.old.slots }
         ensures { self.new ≡ changed (used_in at) i self.old }
     {

@@ -7,7 +7,7 @@ ghost use Rattle.lf_model.specs.Caches.Slot.{Slot, tag_of, is_present, holds, is
 pub(crate) struct Stored {
     /// Bits 31 to 8 of the address, the most significant byte first, and a valid bit for each word of the line.
     pub(crate) tag: [u8; 4],
-    pub(crate) used: u32,
+    pub(crate) used: u64,
 }
 
 /// The tag of a line that is dropped.
