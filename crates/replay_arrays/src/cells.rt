@@ -5,7 +5,7 @@ ghost use Rattle.lf_model.specs.Course.Arrays.{register_cells, struck_by, read_b
 ghost use Rattle.lf_model.specs.Fates.{fate_of};
 ghost use Rattle.lf_model.specs.Flips.{is_bad_word, syndrome, word_bits, word_budget};
 ghost use Rattle.lf_model.specs.declared.trace.Fate.TheVariants.{Late};
-ghost use Rattle.replay_units.specs.Units.{IsToCome};
+ghost use Rattle.replay_units.specs.Units.{named, IsToCome};
 
 use lf_model::trace::Fate;
 use replay_units::{How, Units};
@@ -118,6 +118,14 @@ impl Cells {
         for i in 0..cells.len() {
             self.write_one(cells[i]);
         }
+    }
+
+    /// An error trap names a cell.
+    pub fn name(&mut self, cell: u8)
+        requires { cell < register_cells }
+        ensures { self.new ≡ record self.old { histories = befalls named cell self.old.histories } }
+    {
+        self.units.name(usize::from(cell));
     }
 
     /// What became of a flip of the script so far, by its number: late where it struck no cell.
