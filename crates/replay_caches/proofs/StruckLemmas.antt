@@ -14,10 +14,10 @@ use Rattle.replay_caches.specs.KeepsStruck.{AreAlike, KeepsStruck}
 
 -- ---- one history, and histories
 
-abbrev IsNoStrike : (List Moment → List Moment) → Type 0
+abbrev pub IsNoStrike : (List Moment → List Moment) → Type 0
 IsNoStrike f = (number : ℕ) (h : List Moment) → has_struck number (f h) ≡ has_struck number h
 
-write_no_strike : IsNoStrike written
+pub write_no_strike : IsNoStrike written
 write_no_strike number h = refl
 
 check_no_strike : IsNoStrike checked_byte
@@ -28,19 +28,19 @@ check_no_strike number h = by (is_struck_byte h)
     by false = refl
 
 module _ (f : List Moment → List Moment) (none : IsNoStrike f) (number : ℕ) where
-  in_all : (hs : List (List Moment)) (byte : ℕ) → has_struck number (history_at byte (map f hs)) ≡ has_struck number (history_at byte hs)
+  pub in_all : (hs : List (List Moment)) (byte : ℕ) → has_struck number (history_at byte (map f hs)) ≡ has_struck number (history_at byte hs)
   in_all [] byte = refl
   in_all (h ∷ hs) zero = none number h
   in_all (h ∷ hs) (suc byte) = in_all hs byte
 
-  in_one : (hs : List (List Moment)) (i byte : ℕ) → has_struck number (history_at byte (befalls f i hs)) ≡ has_struck number (history_at byte hs)
+  pub in_one : (hs : List (List Moment)) (i byte : ℕ) → has_struck number (history_at byte (befalls f i hs)) ≡ has_struck number (history_at byte hs)
   in_one [] i byte = refl
   in_one (h ∷ hs) zero zero = none number h
   in_one (h ∷ hs) zero (suc byte) = refl
   in_one (h ∷ hs) (suc i) zero = refl
   in_one (h ∷ hs) (suc i) (suc byte) = in_one hs i byte
 
-  in_each : (bytes : List ℕ) (hs : List (List Moment)) (byte : ℕ) → has_struck number (history_at byte (befalls_each f bytes hs)) ≡ has_struck number (history_at byte hs)
+  pub in_each : (bytes : List ℕ) (hs : List (List Moment)) (byte : ℕ) → has_struck number (history_at byte (befalls_each f bytes hs)) ≡ has_struck number (history_at byte hs)
   in_each [] hs byte = refl
   in_each (i ∷ bytes) hs byte = in_each bytes (befalls f i hs) byte ∙ in_one hs i byte
 

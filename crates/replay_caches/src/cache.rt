@@ -245,6 +245,13 @@ impl Cache {
         (slot % self.shape.ways as usize) as u8
     }
 
+    /// The way that a fill of the line of an address takes.
+    pub fn fill_way(&self, addr: u32) -> u8
+        ensures { result ≡ way_of (victim addr self.now.cache) self.now.cache }
+    {
+        self.way_of(self.victim(addr))
+    }
+
     /// An own store of so many bytes: where its line is present, its bytes in valid words are written. No line is allocated.
     pub fn update(&mut self, addr: u32, len: u8)
         requires { self.old.cache.uses + 1 < 2 ^ 64 }
