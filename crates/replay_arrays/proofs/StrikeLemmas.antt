@@ -16,17 +16,16 @@ use Rattle.flip_ledger.specs.declared.plan.Target.TheVariants.{Word, Register, T
 use Rattle.lf_model.proofs.EachLemmas.{each_both, each_at, each_weaker}
 use Rattle.lf_model.specs.Caches.Cache.{Cache, slot_at}
 use Rattle.lf_model.specs.Caches.Slot.{Slot, empty_slot, history_at, befalls}
-use Rattle.lf_model.specs.Course.Arrays.{register_cells, struck_by, struck_tag, struck_line, strike, begun, reset_arrays}
-use Rattle.lf_model.specs.Course.Arrays.{Arrays as CourseArrays}
+use Rattle.lf_model.specs.Course.Arrays.{Arrays, register_cells, struck_by, struck_tag, struck_line, strike, begun, reset_arrays}
 use Rattle.lf_model.specs.Course.Core.{strikes_core}
 use Rattle.lf_model.specs.Flips.{Moment}
 use Rattle.lf_model.specs.declared.config.Config.{Config}
+use Rattle.lf_model.specs.declared.config.Shape.{Shape}
 use Rattle.lf_model.specs.declared.flip.Flip.{Flip}
 use Rattle.lf_model.specs.declared.flip.Flip.TheVariants as flips
-use Rattle.replay_arrays.specs.CellsState.{CellsState}
-use Rattle.replay_arrays.specs.Striking.{arrays_of, arrays_with, with_arrays, own_flips, struck_in, with_strike, cache_of, IsByteOf, IsTarget, bits_of, HasNotCome, MayStrike, AimsAt, IsPending, IsAlong}
-use Rattle.replay_arrays.specs.declared.arrays.Arrays.{Arrays}
-use Rattle.replay_caches.specs.CacheState.{CacheState}
+use Rattle.replay_arrays.specs.Aims.{own_flips, shape_of, IsByteOf, IsTarget, bits_of, AimsAt}
+use Rattle.replay_arrays.specs.Striking.{arrays_of, parts_with, with_arrays, struck_in, with_strike, shape_in, HasNotCome, MayStrike, IsPending, IsAlong}
+use Rattle.replay_arrays.specs.declared.parts.Parts.{Parts}
 use Rattle.replay_caches.specs.SlotsState.{IsToCome as IsToComeInSlots}
 use Rattle.replay_units.proofs.PlanLemmas.{plan_of_script, plan_apart}
 use Rattle.replay_units.proofs.UnitLemmas.{nothing_at}
@@ -97,7 +96,7 @@ module _ (k number bit : ℕ) (apart : k ≢ number) where
       (clear_set c.slots (set * c.shape.ways + way) (record slot { line_histories = befalls (struck_by number bit) byte slot.line_histories }) (to_clear c.slots none)
       (none.tags i, nowhere_struck slot.line_histories byte (none.lines i)))
 
-  not_come : (a : Arrays) (target : Target) → HasNotCome k a → HasNotCome k (with_arrays a (struck_in number bit (arrays_of a) target))
+  not_come : (a : Parts) (target : Target) → HasNotCome k a → HasNotCome k (with_arrays a (struck_in number bit (arrays_of a) target))
   not_come a (Word addr) none = none
   not_come a (Register cell) none = record { cells = not_in_cells a.cells.histories cell none.cells; fetch_cache = none.fetch_cache; data_cache = none.data_cache }
   not_come a (Tag true way set byte) none = record { cells = none.cells; fetch_cache = not_in_tags a.fetch_cache.cache way set byte none.fetch_cache; data_cache = none.data_cache }
@@ -107,11 +106,21 @@ module _ (k number bit : ℕ) (apart : k ≢ number) where
 
 -- ---- the targets stay
 
-module _ (number bit : ℕ) (a : Arrays) where
-  abbrev struck : Target → Arrays
+module _ (old new : Bool → Shape) (same : (fetch : Bool) → new fetch ≡ old fetch) where
+  byte_stays : (fetch : Bool) (bytes way set byte : ℕ) → IsByteOf (old fetch) bytes way set byte → IsByteOf (new fetch) bytes way set byte
+  byte_stays fetch bytes way set byte is = let e = same fetch in record { way_fits = rw e is.way_fits; set_fits = rw e is.set_fits; byte_fits = is.byte_fits }
+
+  pub target_stays : (target : Target) → IsTarget old target → IsTarget new target
+  target_stays (Word addr) is = is
+  target_stays (Register cell) is = is
+  target_stays (Tag fetch way set byte) is = byte_stays fetch 4 way set byte is
+  target_stays (Line fetch way set byte) is = byte_stays fetch 32 way set byte is
+
+module _ (number bit : ℕ) (a : Parts) where
+  abbrev struck : Target → Parts
   struck target = with_arrays a (struck_in number bit (arrays_of a) target)
 
-  shape_stays : (target : Target) (fetch : Bool) → (cache_of fetch (struck target)).cache.shape ≡ (cache_of fetch a).cache.shape
+  shape_stays : (target : Target) (fetch : Bool) → shape_in (struck target) fetch ≡ shape_in a fetch
   shape_stays (Word addr) fetch = refl
   shape_stays (Register cell) fetch = refl
   shape_stays (Tag true way set byte) true = refl
@@ -123,18 +132,9 @@ module _ (number bit : ℕ) (a : Arrays) where
   shape_stays (Line false way set byte) true = refl
   shape_stays (Line false way set byte) false = refl
 
-  byte_stays : (target : Target) (fetch : Bool) (bytes way set byte : ℕ) → IsByteOf (cache_of fetch a) bytes way set byte → IsByteOf (cache_of fetch (struck target)) bytes way set byte
-  byte_stays target fetch bytes way set byte is = let e = shape_stays target fetch in record { way_fits = rw e is.way_fits; set_fits = rw e is.set_fits; byte_fits = is.byte_fits }
-
-  target_stays : (target other : Target) → IsTarget a other → IsTarget (struck target) other
-  target_stays target (Word addr) is = is
-  target_stays target (Register cell) is = is
-  target_stays target (Tag fetch way set byte) is = byte_stays target fetch 4 way set byte is
-  target_stays target (Line fetch way set byte) is = byte_stays target fetch 32 way set byte is
-
   may_still : (target : Target) (s : Strike) → MayStrike a s → s.number ≢ number → MayStrike (struck target) s
   may_still target s may apart = record {
-    target = target_stays target s.target may.target;
+    target = target_stays (shape_in a) (shape_in (struck target)) (shape_stays target) s.target may.target;
     bit = may.bit;
     of_cells = may.of_cells;
     of_fetch_cache = may.of_fetch_cache;
@@ -142,7 +142,7 @@ module _ (number bit : ℕ) (a : Arrays) where
     once = not_come s.number number bit apart a target may.once;
   }
 
-pub pending_struck : (core : ℕ) (script : List Flip) (a : Arrays) (next : Strike) (rest : List Strike) → IsPending core script a (next ∷ rest)
+pub pending_struck : (core : ℕ) (script : List Flip) (a : Parts) (next : Strike) (rest : List Strike) → IsPending core script a (next ∷ rest)
     → IsPending core script (with_arrays a (with_strike (arrays_of a) next)) rest
 pending_struck core script a next rest pending = record {
   strikes =
@@ -154,7 +154,7 @@ pending_struck core script a next rest pending = record {
 
 -- ---- the strikes of a step
 
-one_flip : (step number : ℕ) (flip : Flip) (a : CourseArrays) → strike step number a flip ≡ cond (nat_eq (time_of flip) step) (with_strike a (strike_of (number, flip))) a
+one_flip : (step number : ℕ) (flip : Flip) (a : Arrays) → strike step number a flip ≡ cond (nat_eq (time_of flip) step) (with_strike a (strike_of (number, flip))) a
 one_flip step number (flips.Mem turn addr bit) a = by (nat_eq turn step)
   where
     by : (b : Bool) → a ≡ cond b a a
@@ -164,14 +164,14 @@ one_flip step number (flips.Reg core t cell bit) a = refl
 one_flip step number (flips.Tag core t fetch way set byte bit) a = refl
 one_flip step number (flips.Line core t fetch way set byte bit) a = refl
 
-one_due : (b : Bool) (s : Strike) (run : List Strike) (a : CourseArrays) → fold with_strike (cond b (with_strike a s) a) run ≡ fold with_strike a (cond b (s ∷ run) run)
+one_due : (b : Bool) (s : Strike) (run : List Strike) (a : Arrays) → fold with_strike (cond b (with_strike a s) a) run ≡ fold with_strike a (cond b (s ∷ run) run)
 one_due true s run a = refl
 one_due false s run a = refl
 
-begun_by_due : (step : ℕ) (numbered : List (ℕ × Flip)) (a : CourseArrays) → begun numbered step a ≡ fold with_strike a (due_at step (map strike_of numbered))
+pub begun_by_due : (step : ℕ) (numbered : List (ℕ × Flip)) (a : Arrays) → begun numbered step a ≡ fold with_strike a (due_at step (map strike_of numbered))
 begun_by_due step [] a = refl
 begun_by_due step (flip ∷ numbered) a =
-    ap (λ (b : CourseArrays). begun numbered step b) (one_flip step flip.0 flip.1 a)
+    ap (λ (b : Arrays). begun numbered step b) (one_flip step flip.0 flip.1 a)
     ∙ begun_by_due step numbered (cond (nat_eq (time_of flip.1) step) (with_strike a (strike_of flip)) a)
     ∙ one_due (nat_eq (time_of flip.1) step) (strike_of flip) (due_at step (map strike_of numbered)) a
 
@@ -179,31 +179,31 @@ All_append : (P : Strike → Type 0) (xs ys : List Strike) → All P xs → All 
 All_append P [] ys all more = more
 All_append P (x ∷ xs) ys all more = All-cons P x (xs ++ ys) (All-head P x xs all) (All_append P xs ys (All-tail P x xs all) more)
 
-module _ (core : ℕ) (script : List Flip) (step : ℕ) (first : Arrays) (plan : List Strike) where
+module _ (core : ℕ) (script : List Flip) (step : ℕ) (first : Parts) (plan : List Strike) where
   pub along_start : IsPending core script first plan → IsAlong core script step first plan first plan
-  along_start pending = record { run = []; split = refl; early = All-nil (λ (s : Strike). s.at ≤ step); arrays_are = refl; pending = pending }
+  along_start pending = record { run = []; split = refl; early = All-nil (λ (s : Strike). s.at ≤ step); parts_are = refl; pending = pending }
 
-  pub along_more : (a : Arrays) (here : List Strike) → IsAlong core script step first plan a here → (next : Strike) (rest : List Strike) → here ≡ next ∷ rest → next.at ≤ step
-      → {a' : Arrays} → a' ≡ with_arrays a (with_strike (arrays_of a) next) → IsAlong core script step first plan a' rest
+  pub along_more : (a : Parts) (here : List Strike) → IsAlong core script step first plan a here → (next : Strike) (rest : List Strike) → here ≡ next ∷ rest → next.at ≤ step
+      → {a' : Parts} → a' ≡ with_arrays a (with_strike (arrays_of a) next) → IsAlong core script step first plan a' rest
   along_more a here along next rest is now made = record {
     run = along.run ++ next ∷ [];
     split = along.split ∙ ap (λ (xs : List Strike). along.run ++ xs) is ∙ sym (append_assoc along.run (next ∷ []) rest);
     early =
         All_append (λ (s : Strike). s.at ≤ step) along.run (next ∷ []) along.early
         (All-cons (λ (s : Strike). s.at ≤ step) next [] now (All-nil (λ (s : Strike). s.at ≤ step)));
-    arrays_are =
+    parts_are =
         made
-        ∙ ap (λ (b : Arrays). with_arrays b (with_strike (arrays_of b) next)) along.arrays_are
-        ∙ ap (λ (x : CourseArrays). with_arrays first x) (sym (fold_push with_strike (arrays_of first) along.run next));
+        ∙ ap (λ (b : Parts). with_arrays b (with_strike (arrays_of b) next)) along.parts_are
+        ∙ ap (λ (x : Arrays). with_arrays first x) (sym (fold_push with_strike (arrays_of first) along.run next));
     pending = rw made (pending_struck core script a next rest (subst (IsPending core script a) is along.pending));
   }
 
-  module _ (planned : IsPlanned (Core core) script step plan) (a : Arrays) (rest : List Strike) (along : IsAlong core script step first plan a rest) (late : All (λ (s : Strike). step < s.at) rest) where
+  module _ (planned : IsPlanned (Core core) script step plan) (a : Parts) (rest : List Strike) (along : IsAlong core script step first plan a rest) (late : All (λ (s : Strike). step < s.at) rest) where
     pub all_struck : a ≡ with_arrays first (begun (own_flips core script) step (arrays_of first))
     all_struck =
-        along.arrays_are
+        along.parts_are
         ∙ ap (λ (run : List Strike). with_arrays first (fold with_strike (arrays_of first) run)) (given (Core core) script step along.run rest (subst (IsPlanned (Core core) script step) along.split planned) along.early late)
-        ∙ ap (λ (x : CourseArrays). with_arrays first x) (sym (begun_by_due step (own_flips core script) (arrays_of first)))
+        ∙ ap (λ (x : Arrays). with_arrays first x) (sym (begun_by_due step (own_flips core script) (arrays_of first)))
 
     pub planned_later : IsPlanned (Core core) script (step + 1) rest
     planned_later = planned_next (Core core) script step along.run rest (subst (IsPlanned (Core core) script step) along.split planned) along.early late
@@ -227,8 +227,8 @@ none_in_empty number (suc n) zero byte = (ap (has_struck number) (nothing_at 4 b
 none_in_empty number (suc n) (suc i) byte = none_in_empty number n i byte
 
 module _ (core : ℕ) (script : List Flip) (config : Config) (n : ℕ) (long : length script ≡ n) where
-  abbrev fresh : Arrays
-  fresh = arrays_with n (reset_arrays config)
+  abbrev fresh : Parts
+  fresh = parts_with n (reset_arrays config)
 
   not_at_reset : (number : ℕ) → HasNotCome number fresh
   not_at_reset number = record {
@@ -243,14 +243,14 @@ module _ (core : ℕ) (script : List Flip) (config : Config) (n : ℕ) (long : l
     };
   }
 
-  may_first : AllByRecursion (AimsAt core fresh) script → (s : Strike) → IsOf (Core core) script s → MayStrike fresh s
+  may_first : AllByRecursion (AimsAt core config) script → (s : Strike) → IsOf (Core core) script s → MayStrike fresh s
   may_first aims s of =
-      let aim : IfSome (Some of.flip) (AimsAt core fresh) = subst (λ (f : Option Flip). IfSome f (AimsAt core fresh)) of.flip_is (each_at (AimsAt core fresh) script s.number aims) in
+      let aim : IfSome (Some of.flip) (AimsAt core config) = subst (λ (f : Option Flip). IfSome f (AimsAt core config)) of.flip_is (each_at (AimsAt core config) script s.number aims) in
       let at = owned of.flip of.owned aim in
       let lt = got_within script s.number of.flip of.flip_is in
       let within : s.number < n = omega (arith, lt, long) in
       record {
-        target = subst (IsTarget fresh) (sym (ap (λ (x : Strike). x.target) of.strike_is)) at.0;
+        target = subst (IsTarget (shape_of config)) (sym (ap (λ (x : Strike). x.target) of.strike_is)) at.0;
         bit = rw of.strike_is at.1;
         of_cells = within;
         of_fetch_cache = within;
@@ -258,16 +258,12 @@ module _ (core : ℕ) (script : List Flip) (config : Config) (n : ℕ) (long : l
         once = not_at_reset s.number;
       }
     where
-      owned : (flip : Flip) → strikes_core core flip ≡ true → IfSome (Some flip) (AimsAt core fresh) → IsTarget fresh (target_of flip) × (bit_of flip < bits_of (target_of flip))
+      owned : (flip : Flip) → strikes_core core flip ≡ true → IfSome (Some flip) (AimsAt core config) → IsTarget (shape_of config) (target_of flip) × (bit_of flip < bits_of (target_of flip))
       owned flip own aim = aim own
 
-  pub pending_start : (plan : List Strike) → AllByRecursion (AimsAt core fresh) script → IsPlanned (Core core) script 0 plan → IsPending core script fresh plan
+  pub pending_start : (plan : List Strike) → AllByRecursion (AimsAt core config) script → IsPlanned (Core core) script 0 plan → IsPending core script fresh plan
   pending_start plan aims planned = record {
     strikes = each_weaker (IsOf (Core core) script) (MayStrike fresh) plan (may_first aims) (plan_of_script (Core core) script plan planned);
     apart = plan_apart (Core core) script plan planned;
     of_script = plan_of_script (Core core) script plan planned;
   }
-
-pub same_arrays : {x x' : CellsState} {y y' z z' : CacheState} → x ≡ x' → y ≡ y' → z ≡ z'
-    → ◌≡◌ {A = Arrays} (record { cells = x; fetch_cache = y; data_cache = z }) (record { cells = x'; fetch_cache = y'; data_cache = z' })
-same_arrays cells fetch_cache data_cache = rw (cells, fetch_cache, data_cache) refl

@@ -1,3 +1,7 @@
 pub mod CellsState
 pub mod CellsInside
+pub mod KeepsStruck
+pub mod Aims
 pub mod Striking
+pub mod ArraysState
+pub mod ArraysInside

@@ -1,12 +1,15 @@
-use Rattle.std.proofs.Common.{sym, subst}
-use Rattle.std.specs.List.{AllByRecursion}
-use Rattle.replay_arrays.specs.Striking.{AimsAt, IsPending}
-use Rattle.replay_arrays.specs.declared.arrays.Arrays.{Arrays}
-use Rattle.replay_arrays.proofs.StrikeLemmas.{pending_start, same_arrays}
+use Rattle.std.proofs.Common.{length, ap, sym}
+use Rattle.replay_arrays.proofs.StrikeLemmas.{pending_start}
 use Rattle.replay_arrays.proofs.arrays.Arrays.new.Goals as goal
 
-pub returns-clause-pending : goal.returns-clause-pending
-returns-clause-pending c = λ core script plan long aims planned.
-    let is = same_arrays c.in_ok-new.ensures c.in_ok-new-2.ensures c.in_ok-new-3.ensures in
-    subst (λ (a : Arrays). IsPending core script a plan) (sym is)
-    (pending_start core script c.args.config.now c.args.flips long plan (subst (λ (a : Arrays). AllByRecursion (AimsAt core a) script) is aims) planned)
+pub invariant_of-result : goal.invariant_of-result
+invariant_of-result c =
+    let script = c.args.setup.now.flips in
+    let count = ap length c.as_slice-flips.ensures.items in
+    let planned = rw c.as_slice-flips.ensures.items at c.in_ok-new-2.ensures in
+    rw (c.of.ensures, c.in_ok-new.ensures)
+    (record {
+      flips = record { cells = count; fetch_cache = count; data_cache = count };
+      planned = planned;
+      pending = pending_start c.args.core script c.args.setup.now.config _ (sym count) c.in_ok-new-2.field-0 c.requires.aims planned;
+    })

@@ -1,5 +1,5 @@
 use Rattle.replay_arrays.proofs.StrikeLemmas.{along_start, along_more, all_struck, planned_later, due_end}
-use Rattle.replay_arrays.proofs.strikes.begin.Goals as goal
+use Rattle.replay_arrays.proofs.strikes.strike_due.Goals as goal
 
 pub due-init : goal.due-init
 due-init c = along_start _ _ _ _ _ c.requires.pending

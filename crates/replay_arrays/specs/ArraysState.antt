@@ -1,0 +1,16 @@
+-- The arrays of a core, over its steps, as the replay has them.
+use Rattle.std.specs.Prelude.{ℕ, ◌+◌, ◌≤◌, List}
+use Rattle.lf_model.specs.Course.Arrays.{Arrays}
+use Rattle.lf_model.specs.declared.flip.Flip.{Flip}
+
+-- core: the core's number; arrays: as the course has them; steps: how many began
+pub record ArraysState : Type 0 where
+  pub script : List Flip
+  pub core : ℕ
+  pub arrays : Arrays
+  pub steps : ℕ
+
+-- slots of the fetch cache and of the data cache were used at most so many times
+pub record UsesAtMost (in_fetch in_data : ℕ) (old new : Arrays) : Type 0 where
+  pub fetch_cache : new.fetch_cache.uses ≤ old.fetch_cache.uses + in_fetch
+  pub data_cache : new.data_cache.uses ≤ old.data_cache.uses + in_data
