@@ -2,3 +2,4 @@ pub mod OneWord
 pub mod Bytes
 pub mod Fetched
 pub mod Flips
+pub mod Upsets

@@ -1,11 +1,11 @@
 -- The setup of a drill: the machine, and a script of pseudo-random flips, of which the memory flips strike words that differ.
-use Rattle.std.specs.Prelude.{ℕ, ◌+◌, ◌-◌, ◌*◌, ◌/◌, ◌%◌, ◌^◌, ◌==◌, true, false, Bool, if◌then◌else◌, List, [], map}
+use Rattle.std.specs.Prelude.{ℕ, ◌≢◌, ◌+◌, ◌-◌, ◌*◌, ◌/◌, ◌%◌, ◌^◌, ◌==◌, true, false, Bool, if◌then◌else◌, List, [], map, ⊤, All, AllPairs}
 use Rattle.std.specs.List.{enumerate_from}
 use Rattle.lf_model.specs.Start.{ram_first}
 use Rattle.lf_model.specs.declared.config.Config.{Config}
 use Rattle.lf_model.specs.declared.config.Shape.{Shape}
 use Rattle.lf_model.specs.declared.flip.Flip.{Flip}
-use Rattle.lf_model.specs.declared.flip.Flip.TheVariants.{Mem, Tag, Line}
+use Rattle.lf_model.specs.declared.flip.Flip.TheVariants.{Mem, Reg, Tag, Line}
 use Rattle.lf_model.specs.declared.setup.Setup.{Setup}
 use Rattle.work_gen.specs.Draws.{draws}
 use Rattle.work_gen.specs.Layout.{data_end, generated_image}
@@ -81,9 +81,26 @@ drill_config size = record {
   watch = [];
 }
 
-abbrev pub drill_setup : ℕ → ℕ → ℕ → Setup
-drill_setup start size count = record {
+abbrev pub generated_setup : ℕ → ℕ → ℕ → Setup
+generated_setup start size count = record {
   image = generated_image start size;
   config = drill_config size;
   flips = drill_flips start size count;
 }
+
+-- ---- what a script does at most
+
+-- a flip strikes no register cell
+abbrev pub StrikesNoCell : Flip → Type 0
+StrikesNoCell (Reg core step cell bit) = ⊥
+StrikesNoCell _ = ⊤
+
+-- two flips do not strike the same memory word
+abbrev pub StrikeOtherWords : Flip → Flip → Type 0
+StrikeOtherWords (Mem turn addr bit) (Mem other_turn other other_bit) = addr ≢ other
+StrikeOtherWords _ _ = ⊤
+
+-- a script of which no two flips strike the same memory word, and none a register cell: so none of these ever has two flipped bits
+pub record IsCorrectable (script : List Flip) : Type 0 where
+  pub cells : All StrikesNoCell script
+  pub words : AllPairs StrikeOtherWords script

@@ -1,8 +1,11 @@
 //! The setup of a drill.
 
-ghost use Rattle.std.specs.Prelude.{◌≡◌, ◌≤◌, ◌<◌, ◌+◌, ◌*◌, ◌%◌, ◌^◌, IfOk};
+ghost use Rattle.std.specs.Prelude.{◌≡◌, ◌≤◌, ◌<◌, ◌+◌, ◌*◌, ◌%◌, ◌^◌, IfOk, All, length};
+ghost use Rattle.lf_model.specs.Start.{IsLoadable};
+ghost use Rattle.run_texts.specs.Keys.{IsOfTable};
+ghost use Rattle.run_texts.specs.FlipLine.{IsOfMachine};
 ghost use Rattle.work_gen.specs.Layout.{data_end};
-ghost use Rattle.work_gen.specs.Drill.{core_of, step_of, way_of, set_of, byte_of, bit_of, memory_flip, line_flip, tag_flip, flip_of, drill_flips, drill_shape, drill_config, drill_setup};
+ghost use Rattle.work_gen.specs.Drill.{core_of, step_of, way_of, set_of, byte_of, bit_of, memory_flip, line_flip, tag_flip, flip_of, drill_flips, drill_shape, drill_config, generated_setup, IsCorrectable};
 
 use crate::draws::Draws;
 use crate::image::{data_end, make};
@@ -135,7 +138,16 @@ pub fn make_setup(alloc: Global, start: u64, size: u32, flips: u32) -> Result<Se
     requires most { size ≤ 100000 }
     requires flips_below_size { flips ≤ size }
     requires flips_few { flips ≤ 65536 }
-    ensures setup { IfOk result (λ setup. setup ≡ drill_setup start size flips) }
+    ensures setup { IfOk result (λ setup. setup ≡ generated_setup start size flips) }
+
+    // A configuration, an image and a script for one machine, as files could spell them: it can be played.
+    ensures of_table { IfOk result (λ setup. IsOfTable setup.config) }
+    ensures loadable { IfOk result (λ setup. IsLoadable setup.config.ram setup.image) }
+    ensures count { IfOk result (λ setup. length setup.flips ≡ flips) }
+    ensures of_machine { IfOk result (λ setup. All (IsOfMachine setup.config) setup.flips) }
+
+    // No flip makes a word or a register that cannot be corrected.
+    ensures correctable { IfOk result (λ setup. IsCorrectable setup.flips) }
 {
     let image = make(alloc, start, size)?;
     let flips = flips_of(alloc, start, size, flips)?;
