@@ -49,40 +49,87 @@ fn an_image_is_made(rt: HostRuntime) -> Result<(), Fail> {
     Ok(())
 }
 
-/// The first four flips of the drill of start 7 and size 4000: of memory, the fetch cache, the load cache and its tags.
-fn is_as_drawn(i: usize, flip: Flip) -> bool {
-    match (i, flip) {
-        (0, Flip::Mem { turn, addr, bit }) => turn == 244 && addr == 0x4000_0000 && bit == 25,
+/// The first flips of the drill of start 2^64 - 1 and size 16, whose draws begin at 0: of memory, a fetch cache, a load cache and its
+/// tags, and the same again.
+static FLIPS: [Flip; 8] = [
+    Flip::Mem {
+        turn: 1807,
+        addr: 0x4000_0000,
+        bit: 29,
+    },
+    Flip::Line {
+        core: 0,
+        step: 2,
+        fetch: true,
+        way: 1,
+        set: 14,
+        byte: 8,
+        bit: 1,
+    },
+    Flip::Line {
+        core: 1,
+        step: 4,
+        fetch: false,
+        way: 1,
+        set: 7,
+        byte: 22,
+        bit: 6,
+    },
+    Flip::Tag {
+        core: 0,
+        step: 13,
+        fetch: false,
+        way: 1,
+        set: 1,
+        byte: 2,
+        bit: 2,
+    },
+    Flip::Mem {
+        turn: 125,
+        addr: 0x4000_0010,
+        bit: 14,
+    },
+    Flip::Line {
+        core: 3,
+        step: 6,
+        fetch: true,
+        way: 1,
+        set: 7,
+        byte: 20,
+        bit: 5,
+    },
+    Flip::Line {
+        core: 0,
+        step: 14,
+        fetch: false,
+        way: 0,
+        set: 9,
+        byte: 0,
+        bit: 0,
+    },
+    Flip::Tag {
+        core: 3,
+        step: 1,
+        fetch: false,
+        way: 0,
+        set: 7,
+        byte: 1,
+        bit: 0,
+    },
+];
+
+/// The same flip.
+fn is_same(flip: Flip, other: Flip) -> bool {
+    match (flip, other) {
         (
-            1,
-            Flip::Line {
-                core,
-                step,
-                fetch,
-                way,
-                set,
-                byte,
-                bit,
+            Flip::Mem { turn, addr, bit },
+            Flip::Mem {
+                turn: other_turn,
+                addr: other_addr,
+                bit: other_bit,
             },
-        ) => {
-            core == 0 && step == 1828 && fetch && way == 0 && set == 11 && byte == 5 && bit == 6
-        }
+        ) => turn == other_turn && addr == other_addr && bit == other_bit,
         (
-            2,
-            Flip::Line {
-                core,
-                step,
-                fetch,
-                way,
-                set,
-                byte,
-                bit,
-            },
-        ) => {
-            core == 0 && step == 3003 && !fetch && way == 0 && set == 12 && byte == 25 && bit == 0
-        }
-        (
-            3,
             Flip::Tag {
                 core,
                 step,
@@ -92,21 +139,61 @@ fn is_as_drawn(i: usize, flip: Flip) -> bool {
                 byte,
                 bit,
             },
-        ) => {
-            core == 3 && step == 576 && !fetch && way == 0 && set == 15 && byte == 3 && bit == 7
-        }
+            Flip::Tag {
+                core: other_core,
+                step: other_step,
+                fetch: other_fetch,
+                way: other_way,
+                set: other_set,
+                byte: other_byte,
+                bit: other_bit,
+            },
+        ) => core == other_core
+            && step == other_step
+            && fetch == other_fetch
+            && way == other_way
+            && set == other_set
+            && byte == other_byte
+            && bit == other_bit,
+        (
+            Flip::Line {
+                core,
+                step,
+                fetch,
+                way,
+                set,
+                byte,
+                bit,
+            },
+            Flip::Line {
+                core: other_core,
+                step: other_step,
+                fetch: other_fetch,
+                way: other_way,
+                set: other_set,
+                byte: other_byte,
+                bit: other_bit,
+            },
+        ) => core == other_core
+            && step == other_step
+            && fetch == other_fetch
+            && way == other_way
+            && set == other_set
+            && byte == other_byte
+            && bit == other_bit,
         _ => false,
     }
 }
 
 #[test]
 fn a_drill_is_set_up(rt: HostRuntime) -> Result<(), Fail> {
-    let setup = make_setup(rt.alloc(), 7, 4000, 4)?;
+    let setup = make_setup(rt.alloc(), u64::MAX, 16, 8)?;
     let config = &setup.config;
-    assert!(rt; config.steps == 33_000 && config.scrub.length == 17_408);
-    assert!(rt; setup.flips.len() == 4);
-    for (i, flip) in setup.flips.as_slice().iter().enumerate() {
-        expect(&rt, i, is_as_drawn(i, *flip));
+    assert!(rt; config.steps == 1128 && config.scrub.length == 5120);
+    let flips = setup.flips.as_slice();
+    assert!(rt; flips.len() == FLIPS.len());
+    for (i, (flip, expected)) in flips.iter().zip(&FLIPS).enumerate() {
+        expect(&rt, i, is_same(*flip, *expected));
     }
     Ok(())
 }
