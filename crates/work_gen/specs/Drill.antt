@@ -88,7 +88,7 @@ generated_setup start size count = record {
   flips = drill_flips start size count;
 }
 
--- ---- what a script does at most
+-- ---- scripts of which each flip is corrected
 
 -- a flip strikes no register cell
 abbrev pub StrikesNoCell : Flip → Type 0
@@ -100,7 +100,7 @@ abbrev pub StrikeOtherWords : Flip → Flip → Type 0
 StrikeOtherWords (Mem turn addr bit) (Mem other_turn other other_bit) = addr ≢ other
 StrikeOtherWords _ _ = ⊤
 
--- a script of which no two flips strike the same memory word, and none a register cell: so none of these ever has two flipped bits
+-- no two flips of a script strike the same memory word, and none strikes a register cell: so no word and no cell ever has two flipped bits
 pub record IsCorrectable (script : List Flip) : Type 0 where
   pub cells : All StrikesNoCell script
   pub words : AllPairs StrikeOtherWords script

@@ -140,13 +140,13 @@ pub fn make_setup(alloc: Global, start: u64, size: u32, flips: u32) -> Result<Se
     requires flips_few { flips ≤ 65536 }
     ensures setup { IfOk result (λ setup. setup ≡ generated_setup start size flips) }
 
-    // A configuration, an image and a script for one machine, as files could spell them: it can be played.
+    // It can be played: its configuration, image and flips are as those that files spell for a machine.
     ensures of_table { IfOk result (λ setup. IsOfTable setup.config) }
     ensures loadable { IfOk result (λ setup. IsLoadable setup.config.ram setup.image) }
     ensures count { IfOk result (λ setup. length setup.flips ≡ flips) }
     ensures of_machine { IfOk result (λ setup. All (IsOfMachine setup.config) setup.flips) }
 
-    // No flip makes a word or a register that cannot be corrected.
+    // No two flips strike the same memory word, and none a register, so that what they flip can be corrected.
     ensures correctable { IfOk result (λ setup. IsCorrectable setup.flips) }
 {
     let image = make(alloc, start, size)?;
