@@ -6,4 +6,10 @@ pub mod WalkPlaces
 pub mod Along
 pub mod SortedSoFar
 pub mod FirstUnclean
-pub mod EntryPlaces
+pub mod OrderPlaces
+pub mod ProgramCounts
+pub mod LostRanks
+pub mod NumberedPlaces
+pub mod CorePlaces
+pub mod OrderAccounts
+pub mod LostSpans

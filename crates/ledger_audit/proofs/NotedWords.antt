@@ -10,7 +10,7 @@ abbrev pub noted_to : ℕ → List ℕ → ℕ → List ℕ
 noted_to line syndromes count = map (λ place. line + 4 * place) (filter (λ place. not (nat_eq (slice_index syndromes place) 0)) (range_with_len 0 count))
 
 -- the numbers from one on, and one more
-range_more : (a n : ℕ) → range_with_len a (n + 1) ≡ range_with_len a n ++ (a + n) ∷ []
+pub range_more : (a n : ℕ) → range_with_len a (n + 1) ≡ range_with_len a n ++ (a + n) ∷ []
 range_more a zero = ap (λ (k : ℕ). k ∷ []) (let e : a ≡ a + 0 = omega arith in e)
 range_more a (suc n) =
     ap (range_with_len a) (let e : suc n + 1 ≡ suc (n + 1) = omega arith in e)

@@ -1,15 +1,14 @@
 -- The last load, and the last lost store, tell how an operation comes after all of them, one operation further.
-use Rattle.std.proofs.Common.{◌≡◌, ◌∙◌, ◌<◌, ◌≤◌, ◌+◌, ◌&&◌, ◌==◌, ◌⊎◌, ℕ, Bool, true, false, List, [], ◌∷◌, length, drop, get_or, sym, subst, refl, inl, inr, Option, Some, None, IfSome, arith}
+use Rattle.std.proofs.Common.{◌≡◌, ◌∙◌, ◌<◌, ◌≤◌, ◌+◌, ◌&&◌, ◌==◌, ◌⊎◌, ℕ, true, false, List, [], ◌∷◌, length, drop, get_or, subst, refl, inl, inr, Some, None, arith}
 use Rattle.std.specs.Prelude.{nat_lt, nat_le}
 use Rattle.std.specs.List.{list_all}
 use Rattle.std.proofs.lemmas.Bool.{cases_Bool, and_parts, ltb-true, leb-true, lt-ltb, le-leb, le-ltb, eqb-true, eq-eqb}
 use Rattle.std.proofs.lemmas.List.{drop_more}
-use Rattle.lf_model.specs.Ledger.OrderAccount.{OrderAccount, Before, comes_before, sorted_by, place_as_reported}
+use Rattle.lf_model.specs.Ledger.OrderAccount.{Before, comes_before}
 use Rattle.lf_model.specs.Operation.{is_lost}
 use Rattle.lf_model.specs.declared.trace.Op.{Op}
 use Rattle.ledger_audit.specs.declared.sorted.SoFar.{SoFar}
-use Rattle.ledger_audit.proofs.Along.{before_at, along_at, before_more}
-use Rattle.ledger_audit.specs.FirstPlaces.{SortedAt}
+use Rattle.ledger_audit.proofs.Along.{before_at, before_more}
 use Rattle.ledger_audit.specs.Sorting.{after_last, Tells, SortedWith}
 
 -- ---- core and program order
@@ -70,23 +69,9 @@ module _ (so_far : SoFar) (b : Before) (o : Op) (tells : Tells so_far b) where
 
 -- ---- at a place of an order
 
-unlike : true ≡ false → ⊥
-unlike e = cc
-
 module _ (order : List Op) (i : ℕ) (d : Op) (within : i < length order) where
   pub later_lost : list_all is_lost (drop i order) ≡ true → list_all is_lost (drop (i + 1) order) ≡ true
   later_lost h = (and_parts (is_lost (get_or order i d)) (list_all is_lost (drop (i + 1) order)) (rw (drop_more order i d within) at h)).1
-
-  abbrev sorted_here : Bool
-  sorted_here = sorted_by (before_at order i) (get_or order i d) (drop (i + 1) order) (get_or order i d).kind
-
-  pub sorted_at : sorted_here ≡ true → SortedAt order i
-  sorted_at h = subst (λ (a : Option OrderAccount). IfSome a (λ (x : OrderAccount). x.sorted ≡ true)) (sym (along_at place_as_reported order i d within)) h
-
-  pub unsorted_at : sorted_here ≡ false → SortedAt order i → ⊥
-  unsorted_at h k =
-      let sorted : sorted_here ≡ true = subst (λ (a : Option OrderAccount). IfSome a (λ (x : OrderAccount). x.sorted ≡ true)) (along_at place_as_reported order i d within) k in
-      unlike (sym sorted ∙ h)
 
   pub tells_more : (so_far : SoFar) → SortedWith (before_at order i) (get_or order i d) (drop (i + 1) order) so_far → Tells so_far (before_at order (i + 1))
   tells_more so_far h = subst (Tells so_far) (before_more order i d within) h.tells

@@ -1,6 +1,7 @@
 pub mod WalkState
 pub mod WalkInside
 pub mod Sorting
+pub mod Account
 pub mod FirstPlaces
-pub mod Noting
 pub mod Entries
+pub mod LostStores

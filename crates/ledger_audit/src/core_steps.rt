@@ -31,7 +31,7 @@ fn is_stop_at(turn: u32, end: &CoreEnd) -> bool
 }
 
 /// A bad register cell stopped the core: trap type 20.
-fn is_register_stop(end: &CoreEnd) -> bool
+pub(crate) fn is_register_stop(end: &CoreEnd) -> bool
     ensures { result ≡ is_register_stop end.now }
 {
     match *end {

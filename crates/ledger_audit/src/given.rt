@@ -1,93 +1,89 @@
-ghost use Rattle.std.specs.Prelude.{◌≡◌, ◌↔◌, ◌<◌, ◌^◌, length, map, slice_get, IsTrue};
-ghost use Rattle.lf_model.specs.Ledger.Account.{without_length};
-ghost use Rattle.lf_model.specs.Places.{FailsFirst};
-ghost use Rattle.ledger_audit.specs.FirstPlaces.{SameFateAt, FatesFailFirst, SameTransferAt, TransfersFailFirst};
+use lf_model::bus::{Transfer, TurnKind, Why};
+use lf_model::listed::Listed;
+use lf_model::trace::{Fates, Four};
 
-use lf_model::bus::Transfer;
-use lf_model::place::Place;
-use lf_model::trace::{Fate, Trace};
-
-/// The trace reports of a flip what became of it.
-fn is_same_fate(given: &[Fate], told: &[Fate], flip: usize) -> bool
-    requires { flip < length told.now }
-    ensures { IsTrue result ↔ SameFateAt given.now told.now flip }
-{
-    match given.get(flip) {
-        Some(fate) => *fate == told[flip],
-        None => false,
-    }
+/// A memory operation of a core that retired.
+#[derive(Clone, Copy, Debug)]
+pub struct Completion {
+    /// The step in which it retired.
+    pub step: u32,
+    /// The way of the data cache that a load hit.
+    pub way: Option<u8>,
+    /// How many entries of the log the core had seen.
+    pub seen: u32,
 }
 
-/// The first flip of which the trace reports another fate.
-fn first_other_fate(given: &[Fate], told: &[Fate]) -> Option<usize>
-    ensures { FailsFirst (length told.now) (SameFateAt given.now told.now) result }
-{
-    for flip in 0..told.len() {
-        if !is_same_fate(given, told, flip) {
-            return Some(flip);
-        }
-    }
-    None
+/// An error trap that a core met.
+#[derive(Clone, Copy, Debug)]
+pub struct ErrorTrap {
+    pub trap_type: u8,
+    /// The register cell or the transfer.
+    pub place: u32,
+    pub syndrome: u8,
+    /// How many steps the core had made, with this one.
+    pub steps: u32,
+    /// How many transfers the core had made, with this one. `None` is a trap by a register cell.
+    pub turns: Option<u32>,
 }
 
-/// The transfer is reported as it was made. No line shows its length.
-fn is_as_made(made: &Transfer, told: &Transfer) -> bool
-    ensures { IsTrue result ↔ without_length made.now ≡ told.now }
-{
-    made.turn == told.turn
-        && made.master == told.master
-        && made.step == told.step
-        && made.kind == told.kind
-        && made.why == told.why
-        && made.addr == told.addr
-        && made.way == told.way
-        && made.words == told.words
-        && made.syn == told.syn
-        && told.len == 0
+/// Stores that follow one another in the program of a core.
+#[derive(Clone, Copy, Debug)]
+pub struct Stores {
+    /// How many stores come before them.
+    pub first: u32,
+    pub count: u32,
 }
 
-/// The trace reports the transfer of a turn as it was made.
-fn is_same_transfer(made: &[Transfer], told: &[Transfer], turn: usize) -> bool
-    requires { turn < length told.now }
-    ensures { IsTrue result ↔ SameTransferAt made.now told.now turn }
-{
-    match made.get(turn) {
-        Some(made) => is_as_made(made, &told[turn]),
-        None => false,
-    }
+/// What the run gives of a core at its end.
+#[derive(Debug, Drop)]
+pub struct CoreGiven {
+    /// The turns that it needed and did not make.
+    pub owed: u64,
+    /// The error traps that it met.
+    pub errors: Listed<ErrorTrap>,
+    /// Its stores that never reached memory.
+    pub lost: Stores,
+    pub parity: Four,
+    /// Which of the 32 registers of its window have no value.
+    pub blank: [bool; 32],
+    /// Its memory operations, in program order.
+    pub completions: Listed<Completion>,
 }
 
-/// The first turn whose transfer the trace reports otherwise.
-fn first_other_transfer(made: &[Transfer], told: &[Transfer]) -> Option<usize>
-    ensures { FailsFirst (length told.now) (SameTransferAt made.now told.now) result }
-{
-    for turn in 0..told.len() {
-        if !is_same_transfer(made, told, turn) {
-            return Some(turn);
-        }
-    }
-    None
+/// What a step of a core, or the walk of the scrubber, needs of the bus.
+#[derive(Clone, Copy, Debug, PartialEq, Eq)]
+pub enum Need {
+    NoTurn,
+    Turn { kind: TurnKind, why: Why },
+    /// The stop by a bad register cell.
+    RegisterStop { cell: u8 },
 }
 
-/// The first flip of which the trace reports another fate than the one given.
-pub fn flip_fates(trace: &Trace, given: &[Fate]) -> Option<Place>
-    requires few { length trace.now.fates < 2 ^ 32 }
-    ensures first { FatesFailFirst trace.now given.now result }
-{
-    match first_other_fate(given, trace.fates.as_slice()) {
-        Some(flip) => Some(Place::Flip(flip as u32)),
-        None => None,
-    }
+/// A transfer as it was made, with its length, and what its master needed.
+#[derive(Clone, Copy, Debug)]
+pub struct TurnGiven {
+    pub transfer: Transfer,
+    pub need: Need,
 }
 
-/// The first transfer that the trace reports otherwise than it was made: its master, step, kind, cause, address and way, and the words
-/// that it read and their syndromes.
-pub fn transfers_as_made(trace: &Trace, made: &[Transfer]) -> Option<Place>
-    requires few { length trace.now.transfers < 2 ^ 32 }
-    ensures first { TransfersFailFirst trace.now made.now result }
-{
-    match first_other_transfer(made, trace.transfers.as_slice()) {
-        Some(turn) => Some(Place::Transfer(turn as u32)),
-        None => None,
-    }
+/// A store or an atomic in the log: its core, and its number there.
+#[derive(Clone, Copy, Debug)]
+pub struct LogEntry {
+    pub core: u32,
+    pub number: u32,
+}
+
+/// What the run of all masters gives.
+#[derive(Debug, Drop)]
+pub struct Given {
+    /// The cores, in the order of their numbers.
+    pub cores: Listed<CoreGiven>,
+    /// The stores and atomics that reached memory, in the order in which they did.
+    pub log: Listed<LogEntry>,
+    /// The transfers, by turn.
+    pub turns: Listed<TurnGiven>,
+    /// The fates of the flips, in the order of the script.
+    pub fates: Fates,
+    /// Which watched words have no value at the end.
+    pub blank: Listed<bool>,
 }

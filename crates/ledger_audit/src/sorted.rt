@@ -1,18 +1,15 @@
-ghost use Rattle.std.specs.Prelude.{◌≡◌, ◌<◌, ◌≤◌, ◌+◌, ◌^◌, ◌&&◌, true, false, None, Some, length, drop, slice_index_or, IfSome};
+ghost use Rattle.std.specs.Prelude.{◌≡◌, ◌<◌, ◌≤◌, ◌+◌, ◌&&◌, true, false, None, Some, length, drop, slice_index_or, IfSome};
 ghost use Rattle.std.specs.List.{list_all};
 ghost use Rattle.lf_model.specs.Ledger.OrderAccount.{Before, comes_before, sorted_by};
 ghost use Rattle.lf_model.specs.Operation.{is_lost};
-ghost use Rattle.lf_model.specs.Places.{FailsFirst};
-ghost use Rattle.ledger_audit.specs.FirstPlaces.{SortedAt, SortedFailsFirst};
 ghost use Rattle.ledger_audit.specs.Sorting.{no_op, after_last, Tells, SortedWith};
 
 use lf_model::bus::OpKind;
-use lf_model::place::Place;
-use lf_model::trace::{Op, Trace};
+use lf_model::trace::Op;
 
 /// What is known of the operations before a place of a memory order, all of which are sorted.
 #[derive(Clone, Copy)]
-struct SoFar {
+pub(crate) struct SoFar {
     /// The last load since the last store or atomic.
     load: Option<Op>,
     /// The last lost store.
@@ -21,8 +18,21 @@ struct SoFar {
     ends_lost: bool,
 }
 
+impl SoFar {
+    /// Before the first operation.
+    pub(crate) fn new() -> SoFar
+        ensures { result ≡ record { load = None; lost = None; ends_lost = false } }
+    {
+        SoFar {
+            load: None,
+            lost: None,
+            ends_lost: false,
+        }
+    }
+}
+
 /// A store that never reached memory.
-fn is_lost(op: &Op) -> bool
+pub(crate) fn is_lost(op: &Op) -> bool
     ensures { result ≡ is_lost op.now }
 {
     matches!(op.kind, OpKind::Lost)
@@ -95,7 +105,7 @@ fn after_lost(so_far: SoFar, op: Op, ends_lost: bool) -> Option<SoFar>
 }
 
 /// What is known after the operation at a place, if that is sorted.
-fn next(so_far: SoFar, order: &[Op], place: usize) -> Option<SoFar>
+pub(crate) fn next(so_far: SoFar, order: &[Op], place: usize) -> Option<SoFar>
     requires place { place < length order.now }
     requires ends { so_far.ends_lost ≡ true → list_all is_lost (drop (place + 1) order.now) ≡ true }
     ensures unsorted { (b : Before) → Tells so_far b → result ≡ None
@@ -114,38 +124,5 @@ fn next(so_far: SoFar, order: &[Op], place: usize) -> Option<SoFar>
             op,
             are_lost_from(order, place + 1, so_far.ends_lost),
         ),
-    }
-}
-
-/// The first operation that is not sorted.
-fn first_unsorted(order: &[Op]) -> Option<usize>
-    ensures { FailsFirst (length order.now) (SortedAt order.now) result }
-{
-    let mut so_far = SoFar {
-        load: None,
-        lost: None,
-        ends_lost: false,
-    };
-    for place in 0..order.len() {
-        match next(so_far, order, place) {
-            Some(next) => so_far = next,
-            None => return Some(place),
-        }
-    }
-    None
-}
-
-/// The first place of the memory order that is not sorted: a load comes by core and program order after the loads before it with no
-/// store or atomic between them, and a lost store after the other lost stores; behind a lost store stand no operations but lost
-/// stores.
-///
-/// It takes time by operations, and no memory.
-pub fn order_sorted(trace: &Trace) -> Option<Place>
-    requires few { length trace.now.order < 2 ^ 32 }
-    ensures first { SortedFailsFirst trace.now result }
-{
-    match first_unsorted(trace.order.as_slice()) {
-        Some(place) => Some(Place::Order(place as u32)),
-        None => None,
     }
 }

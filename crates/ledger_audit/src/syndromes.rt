@@ -1,4 +1,4 @@
-ghost use Rattle.std.specs.Prelude.{◌≡◌, ◌<◌, ◌≤◌, ◌==◌, slice_index};
+ghost use Rattle.std.specs.Prelude.{◌≡◌, ◌<◌, ◌==◌, slice_index};
 ghost use Rattle.std.specs.List.{list_any};
 ghost use Rattle.lf_num.specs.Columns.{columns};
 ghost use Rattle.lf_model.specs.Course.Syndromes.{syndromes_of, is_bad_syndrome};
@@ -14,12 +14,11 @@ static COLUMNS: [u8; 39] = [
 ];
 
 /// The syndrome of word `place` of those that a transfer read.
-pub(crate) fn syndrome_of(transfer: &Transfer, place: u32) -> u8
-    requires few { transfer.now.words ≤ 8 }
+pub(crate) fn syndrome_of(transfer: &Transfer, place: u8) -> u8
     requires within { place < transfer.now.words }
     ensures { result ≡ slice_index (syndromes_of transfer.now) place }
 {
-    ((transfer.syn >> (56 - 8 * place)) % 256) as u8
+    ((transfer.syn >> 56u32.saturating_sub(8 * u32::from(place))) % 256) as u8
 }
 
 /// The syndrome is that of one flipped bit.

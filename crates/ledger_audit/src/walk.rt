@@ -46,9 +46,9 @@ fn words_noted(look: &Transfer) -> ArrayVec<u32, 8>
     ensures { result.items ≡ words_noted look.now }
 {
     let mut noted = ArrayVec::new();
-    for place in 0..u32::from(look.words) {
+    for place in 0..look.words {
         if syndrome_of(look, place) != 0 {
-            noted.push(look.addr + 4 * place);
+            noted.push(look.addr + 4 * u32::from(place));
         }
     }
     noted

@@ -13,6 +13,7 @@ loop-place-preserved c =
     elim c.if-syndrome_of-ne0.branch [
       | then-syndrome_of-ne0 w ↦ (
         ap (λ (v : ArrayVec ℕ). v.items) w.noted-is ∙ w.push.ensures.items
+            ∙ ap (λ (n : ℕ). c.loop-place.noted.items ++ (c.args.look.now.addr + 4 * n) ∷ []) w.from.ensures
             ∙ ap (λ (xs : List ℕ). xs ++ (c.args.look.now.addr + 4 * place) ∷ []) c.loop-place.invariant.0
             ∙ sym (noted_unclean c.args.look.now.addr syn place (ne_eqb _ 0 (λ e. w.if-syndrome_of-ne0.true (c.syndrome_of.ensures ∙ e)))),
         omega (arith, ap (λ (v : ArrayVec ℕ). length v.items) w.noted-is, w.push.ensures.len, c.loop-place.invariant.1),
