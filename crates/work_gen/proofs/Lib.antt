@@ -3,3 +3,5 @@ pub mod Bytes
 pub mod Fetched
 pub mod Flips
 pub mod Upsets
+pub mod NeverBad
+pub mod NeverStruck

@@ -1,7 +1,9 @@
 //! The setup of a drill.
 
 ghost use Rattle.std.specs.Prelude.{◌≡◌, ◌≤◌, ◌<◌, ◌+◌, ◌*◌, ◌%◌, ◌^◌, IfOk, All, length};
+ghost use Rattle.lf_model.specs.Promise.NeverStops.{NeverTwoTurned};
 ghost use Rattle.lf_model.specs.Start.{IsLoadable};
+ghost use Rattle.lf_model.specs.declared.trace.Trace.{Trace};
 ghost use Rattle.run_texts.specs.Keys.{IsOfTable};
 ghost use Rattle.run_texts.specs.FlipLine.{IsOfMachine};
 ghost use Rattle.work_gen.specs.Layout.{data_end};
@@ -146,8 +148,9 @@ pub fn make_setup(alloc: Global, start: u64, size: u32, flips: u32) -> Result<Se
     ensures count { IfOk result (λ setup. length setup.flips ≡ flips) }
     ensures of_machine { IfOk result (λ setup. All (IsOfMachine setup.config) setup.flips) }
 
-    // No two flips strike the same memory word, and none a register, so that what they flip can be corrected.
+    // No two flips strike the same memory word, and none a register. So no word and no register has two flipped bits, in whatever run.
     ensures correctable { IfOk result (λ setup. IsCorrectable setup.flips) }
+    ensures never_two_flipped { IfOk result (λ setup. (trace : Trace) → NeverTwoTurned setup trace) }
 {
     let image = make(alloc, start, size)?;
     let flips = flips_of(alloc, start, size, flips)?;

@@ -1,10 +1,11 @@
--- The setup can be played, and its script makes nothing that cannot be corrected.
+-- The setup can be played, and in no run of it has a word or a register cell two flipped bits.
 use Rattle.std.proofs.Common.{List, ◌∙◌, All, length, ap, sym, subst, arith}
 use Rattle.lf_model.specs.declared.config.Config.{Config}
 use Rattle.lf_model.specs.declared.flip.Flip.{Flip}
 use Rattle.run_texts.specs.FlipLine.{IsOfMachine}
 use Rattle.work_gen.specs.Drill.{drill_config, IsCorrectable}
 use Rattle.work_gen.proofs.Upsets.{fit, correctable, length-drill_flips}
+use Rattle.work_gen.proofs.NeverStruck.{never_two_flipped}
 use Rattle.work_gen.proofs.drill.make_setup.Goals as goal
 
 pub returns-clause-loadable : goal.returns-clause-loadable
@@ -23,3 +24,7 @@ returns-clause-of_machine c =
 pub returns-clause-correctable : goal.returns-clause-correctable
 returns-clause-correctable c =
     subst (λ (flips : List Flip). IsCorrectable flips) (sym c.in_ok-flips.ensures) (correctable c.args.size c.args.start c.args.flips)
+
+pub returns-clause-never_two_flipped : goal.returns-clause-never_two_flipped
+returns-clause-never_two_flipped c =
+    never_two_flipped _ (subst (λ (flips : List Flip). IsCorrectable flips) (sym c.in_ok-flips.ensures) (correctable c.args.size c.args.start c.args.flips))
