@@ -3,7 +3,7 @@ use Rattle.std.proofs.Common.{◌≡◌, ℕ, Bool, true, false, cond, List, [],
 use Rattle.std.specs.Prelude.{fold}
 use Rattle.std.proofs.lemmas.List.{length-set}
 use Rattle.flip_ledger.specs.Follows.{has_struck}
-use Rattle.flip_ledger.specs.Plan.{strike_of, due_at}
+use Rattle.flip_ledger.specs.Plan.{target_of, strike_of, due_at}
 use Rattle.flip_ledger.specs.declared.plan.Strike.{Strike}
 use Rattle.flip_ledger.specs.declared.plan.Target.{Target}
 use Rattle.flip_ledger.specs.declared.plan.Target.TheVariants.{Word, Register, Tag, Line}
@@ -22,6 +22,7 @@ use Rattle.replay_arrays.specs.KeepsStruck.{KeepsCells, KeepsCache, KeepsParts}
 use Rattle.replay_arrays.specs.Striking.{struck_in, with_strike, shape_in, MayStrike, IsPending}
 use Rattle.replay_arrays.specs.declared.arrays.Arrays.TheInside.{Inside}
 use Rattle.replay_arrays.specs.declared.parts.Parts.{Parts}
+use Rattle.replay_arrays.proofs.OwnLemmas.{only_kept}
 use Rattle.replay_arrays.proofs.StrikeLemmas.{target_stays, begun_by_due}
 use Rattle.replay_caches.specs.CacheState.{CacheState, with_cache}
 use Rattle.replay_caches.specs.Keeps.{Keeps}
@@ -101,6 +102,7 @@ parts_keep core script old new plan keeps pending = record {
   strikes = each_weaker (MayStrike old) (MayStrike new) plan may pending.strikes;
   apart = pending.apart;
   of_script = pending.of_script;
+  own = λ number flip this. only_kept number (target_of flip) old new keeps (pending.own number flip this);
 }
   where
     shapes : (fetch : Bool) → shape_in new fetch ≡ shape_in old fetch

@@ -2,7 +2,7 @@
 use Rattle.std.proofs.Common.{◌≡◌, ◌≢◌, ℕ, zero, suc, ◌+◌, ◌*◌, ◌<◌, ◌≤◌, Bool, true, false, ◌||◌, cond, nat_eq, List, [], ◌∷◌, ◌++◌, length, map, slice_index_or, slice_set, Option, Some, None, refl, sym, ap, ◌∙◌, subst, inl, inr, append_assoc, arith}
 use Rattle.std.specs.Prelude.{fold, slice_get, All, IfSome, replicate}
 use Rattle.std.specs.List.{AllByRecursion}
-use Rattle.std.proofs.lemmas.Bool.{cases_eq, ne_eqb}
+use Rattle.std.proofs.lemmas.Bool.{cases_eq, ne_eqb, false≢true}
 use Rattle.std.proofs.lemmas.List.{get_or-set_same, get_or-set_other, length-set}
 use Rattle.std.proofs.lemmas.List.Elements.{All-cons, All-nil, All-head, All-tail}
 use Rattle.std.proofs.lemmas.List.Sums.{fold_push}
@@ -14,7 +14,7 @@ use Rattle.flip_ledger.specs.declared.plan.Strike.{Strike}
 use Rattle.flip_ledger.specs.declared.plan.Target.{Target}
 use Rattle.flip_ledger.specs.declared.plan.Target.TheVariants.{Word, Register, Tag, Line}
 use Rattle.lf_model.proofs.EachLemmas.{each_both, each_at, each_weaker}
-use Rattle.lf_model.specs.Caches.Cache.{Cache, slot_at}
+use Rattle.lf_model.specs.Caches.Cache.{Cache, empty_cache, slot_at}
 use Rattle.lf_model.specs.Caches.Slot.{Slot, empty_slot, history_at, befalls}
 use Rattle.lf_model.specs.Course.Arrays.{Arrays, register_cells, struck_by, struck_tag, struck_line, strike, begun, reset_arrays}
 use Rattle.lf_model.specs.Course.Core.{strikes_core}
@@ -24,8 +24,10 @@ use Rattle.lf_model.specs.declared.config.Shape.{Shape}
 use Rattle.lf_model.specs.declared.flip.Flip.{Flip}
 use Rattle.lf_model.specs.declared.flip.Flip.TheVariants as flips
 use Rattle.replay_arrays.specs.Aims.{own_flips, shape_of, IsByteOf, IsTarget, bits_of, AimsAt}
+use Rattle.replay_arrays.specs.Own.{IsOnlyIn, IsOnlyAt}
 use Rattle.replay_arrays.specs.Striking.{arrays_of, parts_with, with_arrays, struck_in, with_strike, shape_in, HasNotCome, MayStrike, IsPending, IsAlong}
 use Rattle.replay_arrays.specs.declared.parts.Parts.{Parts}
+use Rattle.replay_arrays.proofs.OwnLemmas.{only_struck}
 use Rattle.replay_caches.specs.SlotsState.{IsToCome as IsToComeInSlots}
 use Rattle.replay_units.proofs.PlanLemmas.{plan_of_script, plan_apart}
 use Rattle.replay_units.proofs.UnitLemmas.{nothing_at}
@@ -142,6 +144,14 @@ module _ (number bit : ℕ) (a : Parts) where
     once = not_come s.number number bit apart a target may.once;
   }
 
+-- the strike of a flip is at its unit
+own_target : {core : ℕ} (script : List Flip) (s : Strike) → IsOf (Core core) script s → (number : ℕ) (flip : Flip) → slice_get script number ≡ Some flip
+    → s.number ≡ number → target_of flip ≡ s.target
+own_target script s of number flip this same =
+    let flips : Some flip ≡ Some of.flip = sym this ∙ ap (slice_get script) (sym same) ∙ of.flip_is in
+    let it : flip ≡ of.flip = cc in
+    ap target_of it ∙ sym (ap (λ (x : Strike). x.target) of.strike_is)
+
 pub pending_struck : (core : ℕ) (script : List Flip) (a : Parts) (next : Strike) (rest : List Strike) → IsPending core script a (next ∷ rest)
     → IsPending core script (with_arrays a (with_strike (arrays_of a) next)) rest
 pending_struck core script a next rest pending = record {
@@ -150,6 +160,7 @@ pending_struck core script a next rest pending = record {
       (λ s. may_still next.number next.bit a next.target s) pending.strikes.1 pending.apart.0;
   apart = pending.apart.1;
   of_script = pending.of_script.1;
+  own = λ number flip this. only_struck number next.number next.bit (target_of flip) a next.target (own_target script next pending.of_script.0 number flip this) (pending.own number flip this);
 }
 
 -- ---- the strikes of a step
@@ -243,6 +254,19 @@ module _ (core : ℕ) (script : List Flip) (config : Config) (n : ℕ) (long : l
     };
   }
 
+  none_in : (number : ℕ) (target : Target) (in_fetch : Bool) (shape : Shape) → IsOnlyIn number target in_fetch (empty_cache shape)
+  none_in number target in_fetch shape = record {
+    tags = λ slot byte is. absurd (false≢true (sym (none_in_empty number (shape.ways * shape.sets) slot byte).0 ∙ is));
+    lines = λ slot byte is. absurd (false≢true (sym (none_in_empty number (shape.ways * shape.sets) slot byte).1 ∙ is));
+  }
+
+  none_struck : (number : ℕ) (target : Target) → IsOnlyAt number target fresh
+  none_struck number target = record {
+    cells = λ cell is. absurd (false≢true (sym (ap (has_struck number) (nothing_at register_cells cell)) ∙ is));
+    fetch_cache = none_in number target true config.fetch_cache;
+    data_cache = none_in number target false config.load_cache;
+  }
+
   may_first : AllByRecursion (AimsAt core config) script → (s : Strike) → IsOf (Core core) script s → MayStrike fresh s
   may_first aims s of =
       let aim : IfSome (Some of.flip) (AimsAt core config) = subst (λ (f : Option Flip). IfSome f (AimsAt core config)) of.flip_is (each_at (AimsAt core config) script s.number aims) in
@@ -266,4 +290,5 @@ module _ (core : ℕ) (script : List Flip) (config : Config) (n : ℕ) (long : l
     strikes = each_weaker (IsOf (Core core) script) (MayStrike fresh) plan (may_first aims) (plan_of_script (Core core) script plan planned);
     apart = plan_apart (Core core) script plan planned;
     of_script = plan_of_script (Core core) script plan planned;
+    own = λ number flip this. none_struck number (target_of flip);
   }

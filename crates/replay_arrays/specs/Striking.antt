@@ -1,6 +1,7 @@
 -- The strikes of a plan, and what each of them makes of the arrays of a core.
-use Rattle.std.specs.Prelude.{ℕ, ◌≡◌, ◌<◌, ◌≤◌, ◌++◌, Bool, List, fold, All, if◌then◌else◌}
+use Rattle.std.specs.Prelude.{ℕ, ◌≡◌, ◌<◌, ◌≤◌, ◌++◌, Bool, List, fold, All, Some, slice_get, if◌then◌else◌}
 use Rattle.std.specs.List.{AllByRecursion}
+use Rattle.flip_ledger.specs.Plan.{target_of}
 use Rattle.flip_ledger.specs.declared.plan.Owner.TheVariants.{Core}
 use Rattle.flip_ledger.specs.declared.plan.Strike.{Strike}
 use Rattle.flip_ledger.specs.declared.plan.Target.{Target}
@@ -10,6 +11,7 @@ use Rattle.lf_model.specs.Course.Arrays.{Arrays, struck_by, struck_tag, struck_l
 use Rattle.lf_model.specs.declared.config.Shape.{Shape}
 use Rattle.lf_model.specs.declared.flip.Flip.{Flip}
 use Rattle.replay_arrays.specs.Aims.{IsTarget, bits_of}
+use Rattle.replay_arrays.specs.Own.{IsOnlyAt}
 use Rattle.replay_arrays.specs.declared.parts.Parts.{Parts}
 use Rattle.replay_caches.specs.SlotsState.{IsToCome as IsToComeInSlots}
 use Rattle.replay_units.specs.PlanNumbers.{IsOf, AreApart}
@@ -71,11 +73,12 @@ pub record MayStrike (p : Parts) (strike : Strike) : Type 0 where
   pub of_data_cache : strike.number < p.data_cache.flips
   pub once : HasNotCome strike.number p
 
--- the strikes of a plan are still to come, each once
+-- the strikes of a plan are still to come, each once, and those that came struck their own units
 pub record IsPending (core : ℕ) (script : List Flip) (p : Parts) (plan : List Strike) : Type 0 where
   pub strikes : AllByRecursion (MayStrike p) plan
   pub apart : AreApart plan
   pub of_script : AllByRecursion (IsOf (Core core) script) plan
+  pub own : (number : ℕ) (flip : Flip) → slice_get script number ≡ Some flip → IsOnlyAt number (target_of flip) p
 
 -- how far the strikes of a step have come: those of the run were made, and the rest of the plan is still to come
 pub record IsAlong (core : ℕ) (script : List Flip) (step : ℕ) (first : Parts) (plan : List Strike)

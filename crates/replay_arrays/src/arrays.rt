@@ -1,21 +1,29 @@
-ghost use Rattle.std.specs.Prelude.{◌≡◌, ◌+◌, ◌^◌, ◌<◌, All, length, IfOk};
+ghost use Rattle.std.specs.Prelude.{◌≡◌, ◌+◌, ◌^◌, ◌<◌, ℕ, true, All, length, IfOk, Some, slice_get};
 ghost use Rattle.std.specs.List.{AllByRecursion};
-ghost use Rattle.lf_model.specs.Caches.Cache.{IsCacheShape};
+ghost use Rattle.flip_ledger.specs.Follows.{has_struck};
+ghost use Rattle.lf_model.specs.Caches.Cache.{IsCacheShape, slot_at};
 ghost use Rattle.lf_model.specs.Caches.Change.{updated, snooped, filled, flushed};
 ghost use Rattle.lf_model.specs.Caches.Look.{look};
-ghost use Rattle.lf_model.specs.Caches.Slot.{befalls};
+ghost use Rattle.lf_model.specs.Caches.Slot.{history_at, befalls};
 ghost use Rattle.lf_model.specs.Course.Arrays.{register_cells, reset_arrays, begun, read_cells, write_cells};
+ghost use Rattle.lf_model.specs.Course.Core.{strikes_core};
+ghost use Rattle.lf_model.specs.Fates.{fate_of};
+ghost use Rattle.lf_model.specs.Flips.{byte_budget};
+ghost use Rattle.lf_model.specs.Ledger.FlipFate.{cache_in};
+ghost use Rattle.lf_model.specs.declared.trace.Fate.TheVariants.{Late};
 ghost use Rattle.replay_arrays.specs.Aims.{own_flips, AimsAt};
-ghost use Rattle.replay_arrays.specs.ArraysState.{UsesAtMost};
+ghost use Rattle.replay_arrays.specs.ArraysState.{UsesAtMost, HasFate};
 ghost use Rattle.replay_caches.specs.CacheState.{answer_of};
+ghost use Rattle.replay_caches.specs.SlotsState.{IsToCome};
 ghost use Rattle.replay_units.specs.Units.{named};
 
 use crate::cells::Cells;
 use crate::parts::Parts;
 use crate::strikes::strike_due;
 use flip_ledger::{FlipPlan, Owner};
-use lf_model::flip::Flips;
+use lf_model::flip::{Flip, Flips};
 use lf_model::setup::Setup;
+use lf_model::trace::Fate;
 use replay_caches::{Cache, LookUp};
 use std::alloc::{AllocError, Global};
 use std::marker::Model;
@@ -114,6 +122,36 @@ impl Arrays {
             self.steps,
         );
         self.steps += 1;
+    }
+
+    /// What became so far of a flip of the script that strikes the core, by its number.
+    pub fn fate(&self, number: u32, flip: Flip) -> Fate
+        requires flip { slice_get self.now.script number ≡ Some flip }
+        requires core { strikes_core self.now.core flip ≡ true }
+        ensures { HasFate self.now number flip result }
+    {
+        match flip {
+            Flip::Mem { .. } => Fate::Late,
+            Flip::Reg { .. } => self.parts.cells.fate(number),
+            Flip::Tag { fetch, .. } => self.fate_in(fetch, number),
+            Flip::Line { fetch, .. } => self.fate_in(fetch, number),
+        }
+    }
+
+    /// The same of a flip of a cache: late where it struck no byte.
+    fn fate_in(&self, fetch: bool, number: u32) -> Fate
+        requires { number < length self.now.script }
+        ensures tag { (slot byte : ℕ) → has_struck number (history_at byte (slot_at slot (cache_in fetch self.now.arrays)).tag_histories) ≡ true
+            → result ≡ fate_of byte_budget number (history_at byte (slot_at slot (cache_in fetch self.now.arrays)).tag_histories) }
+        ensures line { (slot byte : ℕ) → has_struck number (history_at byte (slot_at slot (cache_in fetch self.now.arrays)).line_histories) ≡ true
+            → result ≡ fate_of byte_budget number (history_at byte (slot_at slot (cache_in fetch self.now.arrays)).line_histories) }
+        ensures late { IsToCome number (cache_in fetch self.now.arrays).slots → result ≡ Late }
+    {
+        if fetch {
+            self.parts.fetch_cache.fate(number)
+        } else {
+            self.parts.data_cache.fate(number)
+        }
     }
 
     // ---- register cells

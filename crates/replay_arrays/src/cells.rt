@@ -131,7 +131,7 @@ impl Cells {
     /// What became of a flip of the script so far, by its number: late where it struck no cell.
     pub fn fate(&self, number: u32) -> Fate
         requires number { number < self.now.flips }
-        ensures struck { (cell : ℕ) → cell < register_cells → has_struck number (history_at cell self.now.histories) ≡ true
+        ensures struck { (cell : ℕ) → has_struck number (history_at cell self.now.histories) ≡ true
             → result ≡ fate_of word_budget number (history_at cell self.now.histories) }
         ensures late { IsToCome number self.now.histories → result ≡ Late }
     {
