@@ -5,10 +5,14 @@
 ghost use Rattle.std.specs.Prelude.{◌≡◌, ◌-◌, ◌<◌, ◌++◌, IsTrue, length, replicate};
 ghost use Rattle.lf_model.specs.Instructions.{registers_fit, registers_read, stored_registers, operand_registers, is_privileged};
 
+mod common;
 mod decoder;
 mod fields;
 mod registers;
 
+pub use common::{
+    Access, Branch, Calculation, HighBits, access_of, branch_of, calculation_of, high_bits_of,
+};
 pub use decoder::{decode, takes_rd};
 pub use lf_model::instruction::{CalcName, Instr, MemName, Src, StateName};
 pub use registers::Reads;
