@@ -1,12 +1,13 @@
 //! The results of the instructions that calculate, apart from registers and ports (SPARC V8, appendix B).
 
-ghost use Rattle.std.specs.Prelude.{◌≡◌, ◌<◌, ◌==◌, ◌↔◌, IsErr, IfOk, IfErr, IsTrue, if◌then◌else◌};
+ghost use Rattle.std.specs.Prelude.{◌≡◌, ◌<◌, ◌==◌, ◌↔◌, IsErr, IfOk, IfErr, IsTrue, Ok, if◌then◌else◌};
 ghost use Rattle.std.specs.Int.{from_bool};
 ghost use Rattle.lf_num.specs.Arithmetic.{product, low_word, high_word, plain_icc, quotient, quotient_icc, word_sum, word_difference, step_augend, step_addend, step_y, sum_icc, tagged_sum_icc, tagged_difference_icc};
 ghost use Rattle.lf_model.specs.Conditions.{codes_of};
 ghost use Rattle.lf_model.specs.Calculation.{carry_of};
 ghost use Rattle.v8_alu.specs.Operations.{value_of, codes_of as alu_codes};
 ghost use Rattle.v8_exec.specs.Calculating.{Calculates};
+ghost use Rattle.v8_word.specs.Common.{is_common};
 
 use lf_model::instruction::CalcName;
 use v8_alu::{AluOp, alu};
@@ -42,6 +43,7 @@ fn overflow(icc: u8) -> bool
 }
 
 /// A result that leaves icc and Y as they were.
+#[inline(always)]
 fn plain(op: AluOp, x: Inputs) -> Calculated
     ensures value { result.value ≡ value_of op x.a x.b (carry_of x.icc) }
     ensures icc { result.icc ≡ x.icc }
@@ -55,6 +57,7 @@ fn plain(op: AluOp, x: Inputs) -> Calculated
 }
 
 /// A result that sets icc.
+#[inline(always)]
 fn with_codes(op: AluOp, x: Inputs) -> Calculated
     ensures value { result.value ≡ value_of op x.a x.b (carry_of x.icc) }
     ensures icc { result.icc ≡ alu_codes op x.a x.b (carry_of x.icc) }
@@ -145,6 +148,38 @@ fn unless_overflow(out: Calculated) -> Result<Calculated, u8>
         Err(TAG_OVERFLOW)
     } else {
         Ok(out)
+    }
+}
+
+/// What a sum, a difference, a logical operation or a shift calculates.
+#[tactic(auto, unfolding(lf_model::specs::Calculation::result_of, lf_model::specs::Calculation::icc_after, lf_model::specs::Families::y_after, lf_model::specs::Families::overflows_tag, lf_model::specs::Families::divides_by_zero))]
+#[inline(always)]
+pub fn common_calculation(name: CalcName, x: Inputs) -> Calculated
+    requires codes { x.icc < 16 }
+    requires common { IsTrue (is_common name) }
+    ensures { Calculates name x (Ok result) }
+{
+    match name {
+        CalcName::Add => plain(AluOp::Add, x),
+        CalcName::AddCc => with_codes(AluOp::Add, x),
+        CalcName::And => plain(AluOp::And, x),
+        CalcName::AndCc => with_codes(AluOp::And, x),
+        CalcName::Or => plain(AluOp::Or, x),
+        CalcName::OrCc => with_codes(AluOp::Or, x),
+        CalcName::Xor => plain(AluOp::Xor, x),
+        CalcName::XorCc => with_codes(AluOp::Xor, x),
+        CalcName::Sub => plain(AluOp::Sub, x),
+        CalcName::SubCc => with_codes(AluOp::Sub, x),
+        CalcName::AndN => plain(AluOp::AndN, x),
+        CalcName::AndNCc => with_codes(AluOp::AndN, x),
+        CalcName::OrN => plain(AluOp::OrN, x),
+        CalcName::OrNCc => with_codes(AluOp::OrN, x),
+        CalcName::XNor => plain(AluOp::XNor, x),
+        CalcName::XNorCc => with_codes(AluOp::XNor, x),
+        CalcName::Sll => plain(AluOp::Sll, x),
+        CalcName::Srl => plain(AluOp::Srl, x),
+        CalcName::Sra => plain(AluOp::Sra, x),
+        _ => unreachable!(),
     }
 }
 

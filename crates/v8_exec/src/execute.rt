@@ -9,8 +9,8 @@ ghost use Rattle.v8_exec.specs.Reading.{IsInstruction};
 ghost use Rattle.v8_exec.specs.Touching.{Touches, touches_of};
 
 use crate::ports::Ports;
-use crate::words::decoded;
-use crate::{barrier, branch, calculate, memory, refuse, state_register, trap, windows};
+use crate::words::{access_of, branch_of, calculation_of, decoded, high_bits_of};
+use crate::{barrier, branch, calculate, common, memory, refuse, state_register, trap, windows};
 use lf_model::control::Arch;
 use lf_model::instruction::Instr;
 use lf_model::step::{Did, RegBad};
@@ -67,6 +67,51 @@ fn perform<P: Ports>(a: &mut Arch, instr: Instr, p: &mut P) -> Result<Did, RegBa
     }
 }
 
+/// Performs an instruction word of any kind.
+#[inline(never)]
+fn perform_any<P: Ports>(a: &mut Arch, w: u32, p: &mut P) -> Result<Did, RegBad>
+    requires sound { IsSound a.old }
+    requires core { a.old.core ≡ (P.seen p.old).site.core }
+    requires count { a.old.k + 1 < 2 ^ 32 }
+    requires room { 0 < P.room p.old }
+    ensures read { first_bad (P.answers (P.state p.old)) a.old.ctl.cwp (registers_read (instruction_of w)) ≡ bad_in result }
+    ensures does { IfOk result (λ did. Performs (instruction_of w) (P.answers (P.state p.old)) did a.old a.new (P.seen p.old) (P.seen p.new)) }
+    ensures touches { Touches P.touch (instruction_of w) (P.answers (P.state p.old)) result a.old (P.seen p.old) (P.state p.old) (P.state p.new) }
+    ensures keeps { IfOk result (λ did. Keeps did a.old a.new (P.seen p.old) (P.seen p.new) (P.room p.old) (P.room p.new)) }
+    ensures refuses { IfErr result (λ bad. Refuses bad a.old a.new (P.seen p.old) (P.seen p.new) (P.answers (P.state p.old)) (P.answers (P.state p.new)) (P.room p.old) (P.room p.new)) }
+    ensures turn { IsAccessing (instruction_of w) → IfOk result (λ did. Asks (P.seen p.old).site did) }
+{
+    perform(a, decoded(w), p)
+}
+
+/// Performs an instruction word: the common kinds by their fields, all others by what they are decoded to.
+fn perform_word<P: Ports>(a: &mut Arch, w: u32, p: &mut P) -> Result<Did, RegBad>
+    requires sound { IsSound a.old }
+    requires core { a.old.core ≡ (P.seen p.old).site.core }
+    requires count { a.old.k + 1 < 2 ^ 32 }
+    requires room { 0 < P.room p.old }
+    ensures read { first_bad (P.answers (P.state p.old)) a.old.ctl.cwp (registers_read (instruction_of w)) ≡ bad_in result }
+    ensures does { IfOk result (λ did. Performs (instruction_of w) (P.answers (P.state p.old)) did a.old a.new (P.seen p.old) (P.seen p.new)) }
+    ensures touches { Touches P.touch (instruction_of w) (P.answers (P.state p.old)) result a.old (P.seen p.old) (P.state p.old) (P.state p.new) }
+    ensures keeps { IfOk result (λ did. Keeps did a.old a.new (P.seen p.old) (P.seen p.new) (P.room p.old) (P.room p.new)) }
+    ensures refuses { IfErr result (λ bad. Refuses bad a.old a.new (P.seen p.old) (P.seen p.new) (P.answers (P.state p.old)) (P.answers (P.state p.new)) (P.room p.old) (P.room p.new)) }
+    ensures turn { IsAccessing (instruction_of w) → IfOk result (λ did. Asks (P.seen p.old).site did) }
+{
+    if let Some(x) = calculation_of(w) {
+        return common::calculate_common(a, x.name, x.rd, x.rs1, x.src, p);
+    }
+    if let Some(x) = access_of(w) {
+        return memory::access(a, x.name, x.rd, x.rs1, x.src, p);
+    }
+    if let Some(x) = high_bits_of(w) {
+        return Ok(calculate::sethi(a, x.rd, x.imm22, p));
+    }
+    if let Some(x) = branch_of(w) {
+        return Ok(branch::branch(a, x.cond, x.annul, x.disp22, p));
+    }
+    perform_any(a, w, p)
+}
+
 /// How much an answer adds to the count of instructions.
 fn count(did: Did) -> u32
     ensures { result ≡ counted did }
@@ -91,7 +136,7 @@ pub fn exec<P: Ports>(a: &mut Arch, w: u32, p: &mut P) -> Did
     ensures counts { Counts result a.old a.new (P.seen p.old) (P.seen p.new) (P.room p.old) (P.room p.new) }
     ensures turn { Asks (P.seen p.old).site result }
 {
-    let did = match perform(a, decoded(w), p) {
+    let did = match perform_word(a, w, p) {
         Ok(did) => did,
         Err(bad) => return trap::stop(bad, p),
     };

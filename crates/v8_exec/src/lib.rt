@@ -6,6 +6,7 @@ mod barrier;
 mod branch;
 mod calculate;
 mod calculation;
+mod common;
 mod conditions;
 mod execute;
 mod memory;
