@@ -6,10 +6,15 @@ use Rattle.elf_image.specs.Names.{number_of}
 use Rattle.elf_image.specs.Refusals.{conditions, first_fault}
 use Rattle.elf_image.specs.Spelled.{image_of}
 use Rattle.elf_image.specs.declared.refusal.Fault as refusals
+use Rattle.lf_model.specs.Promise.Regular.{IsRegular}
+use Rattle.lf_model.specs.Report.{report}
 use Rattle.lf_model.specs.declared.config.Config.{Config}
 use Rattle.lf_model.specs.declared.flip.Flip.{Flip}
 use Rattle.lf_model.specs.declared.image.Image as images
 use Rattle.lf_model.specs.declared.setup.Event.{Event}
+use Rattle.lf_model.specs.declared.trace.Trace.{Trace}
+use Rattle.report_reader.proofs.WholeLaws.{report_takes, report_again}
+use Rattle.report_reader.specs.Dashes.{report_at}
 use Rattle.run_texts.proofs.AnswerLemmas.{never_memory}
 use Rattle.run_texts.specs.Configuration.{config_answer}
 use Rattle.run_texts.specs.Faults.{IsFirst}
@@ -26,9 +31,9 @@ use Rattle.leon_main.specs.Accepted.{IsWithin, IsFaulty, IsRefused}
 use Rattle.leon_main.specs.Faults.{configuration_fault}
 use Rattle.leon_main.specs.Files.{limit_of}
 use Rattle.leon_main.specs.declared.fault.Fault.{Fault}
-use Rattle.leon_main.specs.declared.fault.Fault.TheVariants.{TooLong, NotToml, UnknownKey, WrongKind, OutOfRange, BadImage, BadScript, BadSchedule}
+use Rattle.leon_main.specs.declared.fault.Fault.TheVariants.{TooLong, NotToml, UnknownKey, WrongKind, OutOfRange, BadImage, BadScript, BadSchedule, BadReport}
 use Rattle.leon_main.specs.declared.run_file.RunFile.{RunFile}
-use Rattle.leon_main.specs.declared.run_file.RunFile.TheVariants.{Configuration, Image, Script, Schedule}
+use Rattle.leon_main.specs.declared.run_file.RunFile.TheVariants.{Configuration, Image, Script, Schedule, Report}
 
 -- the bytes are what the reader of the file takes
 abbrev pub IsSound : RunFile → Config → List ℕ → Type 0
@@ -36,6 +41,7 @@ IsSound Configuration config bytes = (spelled : Config) × (config_answer bytes 
 IsSound Image config bytes = (image : images.Image) × elf.IsFileOf config.ram bytes image
 IsSound Script config bytes = (flips : List Flip) × IsScript config bytes flips
 IsSound Schedule config bytes = (events : List Event) × IsSchedule config bytes events
+IsSound Report config bytes = (trace : Trace) × (IsRegular trace × (bytes ≡ report trace))
 
 -- ---- the first fault of a text
 
@@ -115,6 +121,11 @@ faulty_schedule : (config : Config) (bytes : List ℕ) (fault : Fault) → IsFau
 faulty_schedule config bytes (BadSchedule line why) told = (line, (why, (told, refl)))
 faulty_schedule config bytes fault told = absurd told
 
+faulty_report : (config : Config) (bytes : List ℕ) (fault : Fault) → IsFaulty Report config bytes fault
+    → (line : ℕ) × ((report_at bytes ≡ Err line) × (fault ≡ BadReport line))
+faulty_report config bytes (BadReport line) told = (line, (told, refl))
+faulty_report config bytes fault told = absurd told
+
 -- what a reader takes is not faulty
 sound_not_faulty : (file : RunFile) (config : Config) (bytes : List ℕ) (fault : Fault) → IsSound file config bytes → IsFaulty file config bytes fault → ⊥
 sound_not_faulty Configuration config bytes fault sound faulty = let told = faulty_configuration config bytes fault faulty in let both : Ok sound.0 ≡ Err told.0 = sym sound.1 ∙ told.1.0 in cc
@@ -127,6 +138,10 @@ sound_not_faulty Script config bytes fault sound faulty =
 sound_not_faulty Schedule config bytes fault sound faulty =
     let told = faulty_schedule config bytes fault faulty in
     no_first (fault_at (event_lines config) bytes) (length (rows bytes)) told.0 told.1.0 (fault_past (event_lines config) (λ earlier. no_event_fault config) bytes) sound.1.faultless told.1.1.0
+sound_not_faulty Report config bytes fault sound faulty =
+    let told = faulty_report config bytes fault faulty in
+    let read : report_at bytes ≡ Ok sound.0 = ap report_at sound.1.1 ∙ report_again sound.0 sound.1.0 in
+    let both : Ok sound.0 ≡ Err told.0 = sym read ∙ told.1.0 in cc
 
 -- the same refusal tells the same number and offset
 same_refusal : (ram : ℕ) (bytes : List ℕ) (number offset more other : ℕ) → elf.IsRefused ram bytes number offset → elf.IsRefused ram bytes more other → (number ≡ more) × (offset ≡ other)
@@ -169,6 +184,12 @@ one_fault Schedule config bytes fault other first second =
     let b = faulty_schedule config bytes other second in
     let same = one_first (fault_at (event_lines config) bytes) a.0 b.0 a.1.0 b.1.0 a.1.1.0 b.1.1.0 in
     a.1.1.1 ∙ (same_schedule a.0 b.0 a.1.0 b.1.0 same.0 same.1 ∙ sym b.1.1.1)
+one_fault Report config bytes fault other first second =
+    let a = faulty_report config bytes fault first in
+    let b = faulty_report config bytes other second in
+    let same : Err a.0 ≡ Err b.0 = sym a.1.0 ∙ b.1.0 in
+    let lines_ : a.0 ≡ b.0 = cc in
+    a.1.1 ∙ (ap BadReport lines_ ∙ sym b.1.1)
 
 -- the bytes are what the reader takes, or faulty
 sound_or_faulty : (file : RunFile) (config : Config) (bytes : List ℕ) → IsSound file config bytes ⊎ ((fault : Fault) × IsFaulty file config bytes fault)
@@ -196,6 +217,11 @@ sound_or_faulty Schedule config bytes =
       | inl faultless ↦ inl (all_spelled (event_lines config) (rows bytes), record { faultless = faultless; spelled = refl })
       | inr first ↦ inr (BadSchedule first.0 first.1.0, first.1.1)
     ]
+sound_or_faulty Report config bytes = by_answer (report_at bytes) refl
+  where
+    by_answer : (told : Result Trace ℕ) → report_at bytes ≡ told → IsSound Report config bytes ⊎ ((fault : Fault) × IsFaulty Report config bytes fault)
+    by_answer (Ok trace) is = inl (trace, report_takes bytes trace is)
+    by_answer (Err line) is = inr (BadReport line, is)
 
 -- ---- with the limit
 
@@ -233,6 +259,7 @@ faulty_refused Configuration config bytes (TooLong other) within faulty = absurd
 faulty_refused Image config bytes (TooLong other) within faulty = absurd faulty
 faulty_refused Script config bytes (TooLong other) within faulty = absurd faulty
 faulty_refused Schedule config bytes (TooLong other) within faulty = absurd faulty
+faulty_refused Report config bytes (TooLong other) within faulty = absurd faulty
 faulty_refused file config bytes fault within faulty = (within, faulty)
 
 pub accepted_or_refused : (file : RunFile) (config : Config) (bytes : List ℕ) → IsAccepted file config bytes ⊎ ((fault : Fault) × IsRefused file config bytes fault)

@@ -10,3 +10,4 @@ pub mod MemoryLemmas
 pub mod PlayableLemmas
 pub mod NumberLemmas
 pub mod ImageLemmas
+pub mod VerdictLemmas

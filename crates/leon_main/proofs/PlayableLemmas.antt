@@ -1,14 +1,17 @@
--- What the readers promise of the texts of a run makes its setup one that the machine can play.
-use Rattle.std.proofs.Common.{ℕ, ◌≤◌, List, All, length, get_or}
+-- What the readers promise of the texts of a run makes its setup one that the machine can play, and that can be audited.
+use Rattle.std.proofs.Common.{ℕ, ◌≤◌, ◌*◌, List, All, length, get_or, arith}
+use Rattle.std.specs.Prelude.{IsTrue}
 use Rattle.std.specs.List.{AllByRecursion}
-use Rattle.std.proofs.lemmas.List.Elements.{recursion_from_All}
-use Rattle.lf_model.specs.Start.{IsLoadable}
+use Rattle.std.proofs.lemmas.List.Elements.{All-from_recursion, recursion_from_All}
+use Rattle.std.proofs.Math.Nat.{mul-le-mul_right}
+use Rattle.lf_model.specs.Start.{is_in_ram, IsLoadable}
 use Rattle.lf_model.specs.declared.config.Config.{Config}
 use Rattle.lf_model.specs.declared.flip.Flip.{Flip}
 use Rattle.lf_model.specs.declared.flip.Flip.TheVariants.{Mem, Reg, Tag, Line}
 use Rattle.lf_model.specs.declared.setup.Setup.{Setup}
 use Rattle.machine_play.specs.Playable as machine
 use Rattle.machine_play.specs.Playable.{IsPlayable}
+use Rattle.tso_audit.specs.Audit.{CanAudit}
 use Rattle.run_texts.specs.FlipLine as texts
 use Rattle.run_texts.specs.FlipLine.{most_flips}
 use Rattle.run_texts.specs.Keys as keys
@@ -59,3 +62,23 @@ playable setup table image few flips = record {
   flips = mapped (texts.IsOfMachine setup.config) (machine.IsOfMachine setup.config) (of_machine setup.config) setup.flips flips;
   watch = mapped (keys.IsWordOfRam setup.config.ram) (machine.IsWordOfRam setup.config.ram) (word_of_ram setup.config.ram) setup.config.watch table.watched;
 }
+
+-- a machine that can be played is one of which a report can be audited
+few_steps_each : (cores steps : ℕ) → 1 ≤ cores → cores * steps ≤ 4000000 → steps ≤ 4000000
+few_steps_each cores steps some few = omega (arith, mul-le-mul_right steps some, few)
+
+pub can_audit : (setup : Setup) → IsPlayable setup → CanAudit setup
+can_audit setup able = record {
+  cores = able.limits.few_cores;
+  ram = able.most_ram;
+  steps = few_steps_each setup.config.cores setup.config.steps able.limits.some_core able.limits.few_steps;
+  image = able.image;
+  watch = All-from_recursion in_ram setup.config.watch
+      (mapped words in_ram (λ addr word. word.in_ram) setup.config.watch (All-from_recursion words setup.config.watch able.watch));
+}
+  where
+    words : ℕ → Type 0
+    words = machine.IsWordOfRam setup.config.ram
+
+    in_ram : ℕ → Type 0
+    in_ram addr = IsTrue (is_in_ram setup.config.ram addr 4)

@@ -4,5 +4,6 @@ pub mod Faults
 pub mod Accepted
 pub mod Reading
 pub mod Ends
+pub mod Verdicts
 pub mod Call
 pub mod Given

@@ -5,8 +5,8 @@ use Rattle.lf_io.specs.Held.{FileMap}
 use Rattle.lf_model.specs.declared.config.Config.{Config}
 use Rattle.lf_model.specs.declared.setup.Setup.{Setup}
 use Rattle.leon_main.specs.Accepted.{IsWithin, AreAcceptedBefore, IsRefused, IsFirstRefusal}
-use Rattle.leon_main.specs.Files.{name_in}
-use Rattle.leon_main.specs.Words.{FileNames}
+use Rattle.leon_main.specs.Files.{name_in, IsFileOf}
+use Rattle.leon_main.specs.Words.{Task, FileNames}
 use Rattle.leon_main.specs.declared.fault.Fault.{Fault}
 use Rattle.leon_main.specs.declared.fault.Fault.TheVariants.{Usage, Unread, Memory}
 use Rattle.leon_main.specs.declared.run_file.RunFile.{RunFile}
@@ -20,13 +20,14 @@ IsFileCause file config told before after Memory = IfSome told (IsWithin file)
 IsFileCause file config told before after fault = IfSome told (λ bytes. IsRefused file config bytes fault)
 
 -- a file could not be read: the count of its name rose, and the files before it, where they are told, are accepted
-pub record IsUnread (names : FileNames) (held : Option FileMap) (before after : List ℕ → ℕ) (file : RunFile) : Type 0 where
+pub record IsUnread (task : Task) (names : FileNames) (held : Option FileMap) (before after : List ℕ → ℕ) (file : RunFile) : Type 0 where
+  pub is_read : IsFileOf file task
   pub rose : Rose (before (name_in names file)) (after (name_in names file))
   pub accepted : IfSome held (λ files. (setup : Setup) × AreAcceptedBefore file names files setup)
 
 -- all files of a run: a file could not be read; memory ran out; or this is the first refusal, where contents are told
-abbrev pub IsCause : FileNames → Option FileMap → (List ℕ → ℕ) → (List ℕ → ℕ) → Fault → Type 0
-IsCause names held before after Usage = ⊥
-IsCause names held before after (Unread file) = IsUnread names held before after file
-IsCause names held before after Memory = ⊤
-IsCause names held before after fault = IfSome held (λ files. IsFirstRefusal names files fault)
+abbrev pub IsCause : Task → FileNames → Option FileMap → (List ℕ → ℕ) → (List ℕ → ℕ) → Fault → Type 0
+IsCause task names held before after Usage = ⊥
+IsCause task names held before after (Unread file) = IsUnread task names held before after file
+IsCause task names held before after Memory = ⊤
+IsCause task names held before after fault = IfSome held (λ files. IsFirstRefusal task names files fault)

@@ -8,16 +8,21 @@ use Rattle.leon_main.specs.declared.words.Command.{Command}
 use Rattle.leon_main.specs.declared.words.Command.TheVariants as code
 use Rattle.leon_main.specs.declared.words.Names.{Names}
 
--- the names of the files of a run
+-- what is done with the files of a run: the run is played by a schedule, or the report of it is audited
+pub data Task : Type 0 where
+  Play : Task
+  Audit : Task
+
+-- the names of the files of a run; the last is its schedule or its report
 pub record FileNames : Type 0 where
   pub image : List ℕ
   pub configuration : List ℕ
   pub script : List ℕ
-  pub schedule : List ℕ
+  pub last : List ℕ
 
 -- what a call asks for: a run of these files, the image of a generated program, or the check bits of a word
 pub data Request : Type 0 where
-  Play : (names : FileNames) → Request
+  OfRun : (task : Task) (names : FileNames) → Request
   Generate : (start size : ℕ) → Request
   Codes : (word : ℕ) → Request
 
@@ -32,7 +37,7 @@ is_dashed word = starts_with nat_eq word (codes "-")
 -- names of which none begins with a dash
 abbrev pub undashed : FileNames → Option FileNames
 undashed names =
-    if is_dashed names.image || is_dashed names.configuration || is_dashed names.script || is_dashed names.schedule then None
+    if is_dashed names.image || is_dashed names.configuration || is_dashed names.script || is_dashed names.last then None
     else Some names
 
 -- a number: 1 to 20 decimal digits, which may begin with zeros, of a number below 2 ^ 64
@@ -52,10 +57,12 @@ if_size n = if nat_le 16 n && nat_le n 100000 then Some n else None
 unfoldable pub size : List ℕ → Option ℕ
 size word = option_and_then if_size (number word)
 
--- what a command asks for with these words, None where they are not taken: `play` with the names of four files, `gen` with a
--- start and a size, and `codes` with a word of 8 hexadecimal digits
-abbrev pub play_request : List ℕ → FileNames → Option Request
-play_request command names = if is_text (codes "play") command then option_map Play (undashed names) else None
+-- what a command asks for with these words, None where they are not taken: `play` or `audit` with the names of four files, `gen`
+-- with a start and a size, and `codes` with a word of 8 hexadecimal digits
+unfoldable pub run_request : List ℕ → FileNames → Option Request
+run_request command names =
+    if is_text (codes "play") command then option_map (OfRun Play) (undashed names)
+    else (if is_text (codes "audit") command then option_map (OfRun Audit) (undashed names) else None)
 
 abbrev pub generate_request : (command start_word size_word : List ℕ) → Option Request
 generate_request command start_word size_word =
@@ -68,15 +75,15 @@ codes_request command word = if is_text (codes "codes") command then option_map 
 
 -- what the words of a call ask for, None where they are not taken
 unfoldable pub request_of : List (List ℕ) → Option Request
-request_of (program ∷ command ∷ image ∷ configuration ∷ script ∷ schedule ∷ []) =
-    play_request command (record { image = image; configuration = configuration; script = script; schedule = schedule })
+request_of (program ∷ command ∷ image ∷ configuration ∷ script ∷ last ∷ []) =
+    run_request command (record { image = image; configuration = configuration; script = script; last = last })
 request_of (program ∷ command ∷ start_word ∷ size_word ∷ []) = generate_request command start_word size_word
 request_of (program ∷ command ∷ word ∷ []) = codes_request command word
 request_of _ = None
 
--- the words ask for a run of these files, for the image of a program, or for the check bits of this word
-abbrev pub AsksToPlay : List (List ℕ) → FileNames → Type 0
-AsksToPlay words names = request_of words ≡ Some (Play names)
+-- the words ask for this of the files of a run, for the image of a program, or for the check bits of this word
+abbrev pub AsksTo : Task → List (List ℕ) → FileNames → Type 0
+AsksTo task words names = request_of words ≡ Some (OfRun task names)
 
 abbrev pub AsksToGenerate : List (List ℕ) → ℕ → ℕ → Type 0
 AsksToGenerate words start size = request_of words ≡ Some (Generate start size)
@@ -90,16 +97,18 @@ told names = record {
   image = names.image.now;
   configuration = names.configuration.now;
   script = names.script.now;
-  schedule = names.schedule.now;
+  last = names.last.now;
 }
 
 abbrev pub asked : Command → Request
-asked (code.Play names) = Play (told names)
+asked (code.Play names) = OfRun Play (told names)
+asked (code.Audit names) = OfRun Audit (told names)
 asked (code.Generate start size) = Generate start size
 asked (code.Codes word) = Codes word
 
 -- the size of a program is in its range
 abbrev pub SizeFits : Command → Type 0
 SizeFits (code.Play names) = ⊤
+SizeFits (code.Audit names) = ⊤
 SizeFits (code.Generate start size) = (16 ≤ size) × (size ≤ 100000)
 SizeFits (code.Codes word) = ⊤

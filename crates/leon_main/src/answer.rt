@@ -5,17 +5,21 @@ ghost use Rattle.leon_main.specs.Ends.{is_stop, is_limit, some_end, status_of_co
 ghost use Rattle.leon_main.specs.Call.{status_of, text_of};
 
 use crate::fault::Fault;
+use crate::verdict::{verdict_line, verdict_status};
 use lf_io::{Failed, Sink, put_all};
 use lf_model::image::Bytes;
 use lf_model::trace::{CoreEnd, CoreResult, Trace};
 use report_text::fields::{LINE_FEED, Piece, put_hex_field};
 use report_text::write_report;
+use tso_audit::Verdict;
 
 /// The result of a call.
 #[derive(Debug, Drop)]
 pub enum Answer {
     /// The image ran.
     Report(Trace),
+    /// The report of a run was audited.
+    Audited(Verdict),
     /// The file of the image of a generated program.
     ImageFile(Bytes),
     /// The seven check bits of a word.
@@ -66,6 +70,7 @@ pub fn status_of(outcome: &Result<Answer, Fault>) -> u8
 {
     match outcome {
         Ok(Answer::Report(trace)) => status_of_cores(trace.cores.as_slice()),
+        Ok(Answer::Audited(verdict)) => verdict_status(*verdict),
         Ok(Answer::ImageFile(_)) => 0,
         Ok(Answer::CheckBits(_)) => 0,
         Err(fault) => fault.status(),
@@ -80,6 +85,7 @@ pub fn write_text<K: Sink>(outcome: &Result<Answer, Fault>, out: &mut K) -> Resu
 {
     match outcome {
         Ok(Answer::Report(trace)) => write_report(trace, out),
+        Ok(Answer::Audited(verdict)) => write_line(&verdict_line(*verdict), out),
         Ok(Answer::ImageFile(file)) => put_all(out, file.as_slice()),
         Ok(Answer::CheckBits(bits)) => write_line(&check_bits_line(*bits), out),
         Err(fault) => write_line(&fault.line(), out),

@@ -1,6 +1,6 @@
 ghost use Rattle.std.specs.Prelude.{◌≡◌, ◌≤◌, ◌++◌, codes, length};
 ghost use Rattle.elf_image.specs.Names.{refusal_name};
-ghost use Rattle.lf_model.specs.Texts.{number, space};
+ghost use Rattle.lf_model.specs.Texts.{number, space, line_feed};
 ghost use Rattle.run_texts.specs.Faults.{word_of};
 ghost use Rattle.run_texts.specs.Keys.{row};
 ghost use Rattle.leon_main.specs.Faults.{read_fault, script_fault, schedule_fault};
@@ -8,6 +8,7 @@ ghost use Rattle.leon_main.specs.Faults.{read_fault, script_fault, schedule_faul
 use crate::run_file::RunFile;
 use elf_image::{ImageErr, refusal_name};
 use lf_io::ReadErr;
+use report_text::ReportErr;
 use report_text::fields::{LINE_FEED, Piece, SPACE, put, put_number};
 use run_texts::{ConfigErr, Key, TextErr, TextWhy};
 use std::alloc::AllocError;
@@ -47,6 +48,11 @@ pub enum Fault {
         /// The number of the line, from 1 on.
         line: u64,
         why: TextWhy,
+    },
+    /// The report is none: this is its first line that does not fit.
+    BadReport {
+        /// The number of the line, from 1 on. A missing line has the number after the last.
+        line: u64,
     },
     /// There is no memory left.
     Memory,
@@ -94,6 +100,20 @@ impl From<ImageErr> for Fault {
     }
 }
 
+impl From<ReportErr> for Fault {
+    ghost use Rattle.std.specs.Prelude.{◌≡◌};
+    ghost use Rattle.leon_main.specs.Faults.{report_fault};
+
+    ghost from_gives = { λ error fault. fault ≡ report_fault error };
+
+    fn from(error: ReportErr) -> Fault {
+        match error {
+            ReportErr::At { line } => Fault::BadReport { line },
+            ReportErr::Memory => Fault::Memory,
+        }
+    }
+}
+
 /// The word for a fault of a line.
 #[tactic(auto, using(crate::proofs::LineLengths::why_short))]
 fn why_text(why: TextWhy) -> &'static [u8]
@@ -122,7 +142,7 @@ fn refusal_text(number: u8) -> &'static [u8]
 }
 
 /// A line of these bytes.
-fn piece_of(bytes: &[u8]) -> Piece
+pub fn piece_of(bytes: &[u8]) -> Piece
     requires { length bytes.now ≤ 100 }
     ensures text { result.items ≡ bytes.now }
 {
@@ -165,6 +185,15 @@ fn number_line(head: &[u8], word: &[u8], n: u64) -> Piece
     put(&mut piece, word);
     put(&mut piece, b" ");
     put_number(&mut piece, LINE_FEED, n);
+    piece
+}
+
+/// The line that tells where a report does not fit.
+fn report_line(line: u64) -> Piece
+    ensures text { result.items ≡ codes "error 9 " ++ number line_feed line }
+{
+    let mut piece = piece_of(b"error 9 ");
+    put_number(&mut piece, LINE_FEED, line);
     piece
 }
 
@@ -213,6 +242,7 @@ impl Fault {
             Fault::BadScript { .. } | Fault::BadSchedule { .. } => 5,
             Fault::NotToml | Fault::UnknownKey | Fault::WrongKind(_) | Fault::OutOfRange(_) => 6,
             Fault::Memory => 7,
+            Fault::BadReport { .. } => 9,
             Fault::TooLong(_) => 12,
         }
     }
@@ -235,6 +265,7 @@ impl Fault {
             }
             Fault::BadScript { line, why } => text_line(b"error 5 script ", line, why),
             Fault::BadSchedule { line, why } => text_line(b"error 5 schedule ", line, why),
+            Fault::BadReport { line } => report_line(line),
             Fault::Memory => piece_of(b"error 7 memory\n"),
         }
     }

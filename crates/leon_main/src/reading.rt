@@ -2,10 +2,11 @@ ghost use Rattle.std.specs.Prelude.{◌≡◌, ◌≤◌, ℕ, List, All, length
 ghost use Rattle.lf_io.specs.Answers.{IsWhole};
 ghost use Rattle.lf_io.specs.Held.{content};
 ghost use Rattle.lf_model.specs.declared.config.Config.{Config};
+ghost use Rattle.lf_model.specs.Promise.Regular.{IsRegular};
 ghost use Rattle.lf_model.specs.Start.{IsLoadable};
 ghost use Rattle.run_texts.specs.Keys.{IsOfTable};
 ghost use Rattle.run_texts.specs.FlipLine.{most_flips, IsOfMachine};
-ghost use Rattle.leon_main.specs.Accepted.{SpellsConfiguration, SpellsImage, SpellsScript, SpellsSchedule};
+ghost use Rattle.leon_main.specs.Accepted.{SpellsConfiguration, SpellsImage, SpellsScript, SpellsSchedule, SpellsReport};
 ghost use Rattle.leon_main.specs.Files.{limit_of};
 ghost use Rattle.leon_main.specs.Reading.{IsFileCause};
 
@@ -16,6 +17,7 @@ use lf_model::config::Config;
 use lf_model::flip::Flips;
 use lf_model::image::Image;
 use lf_model::setup::Event;
+use lf_model::trace::Trace;
 use std::alloc::Global;
 
 /// The bytes of a file, which are within its limit.
@@ -119,4 +121,19 @@ pub fn schedule<F: Files>(
         Ok(events) => Ok(events),
         Err(error) => Err(Fault::of_schedule(error)),
     }
+}
+
+/// The trace whose report a file is.
+pub fn report<F: Files>(alloc: Global, files: &mut F, name: &str) -> Result<Trace, Fault>
+    ensures spelled { IfOk result (λ trace. IfSome (content (F.held files.old) name.now)
+        (λ bytes. SpellsReport bytes trace)) }
+    ensures regular { IfOk result IsRegular }
+    ensures cause { IfErr result (λ fault. (config : Config)
+        → IsFileCause RunFile.Report config (content (F.held files.old) name.now)
+        (F.faults files.old name.now) (F.faults files.new name.now) fault) }
+    ensures kept { F.held files.new ≡ F.held files.old }
+    ensures never_falls { (other : List ℕ) → F.faults files.old other ≤ F.faults files.new other }
+{
+    let bytes = bytes_of(alloc, files, RunFile::Report, name)?;
+    Ok(report_text::read_report(alloc, &bytes)?)
 }

@@ -1,13 +1,15 @@
 ghost use Rattle.std.specs.Prelude.{◌≡◌, ◌<◌, ◌≤◌, ◌^◌, length};
 ghost use Rattle.leon_main.specs.Files.{file_word, limit_of};
 
-/// A file of a run. They are read in this order.
+/// A file of a run. The first three are read in this order, and then the schedule by which the run is played, or the report of it that
+/// is audited.
 #[derive(Clone, Copy, Debug, PartialEq, Eq)]
 pub enum RunFile {
     Configuration,
     Image,
     Script,
     Schedule,
+    Report,
 }
 
 impl RunFile {
@@ -21,6 +23,7 @@ impl RunFile {
             RunFile::Image => b"image",
             RunFile::Script => b"script",
             RunFile::Schedule => b"schedule",
+            RunFile::Report => b"report",
         }
     }
 
@@ -33,6 +36,7 @@ impl RunFile {
             RunFile::Configuration => 1_048_576,
             RunFile::Image => 67_108_864,
             RunFile::Script | RunFile::Schedule => 16_777_216,
+            RunFile::Report => 536_870_912,
         }
     }
 }

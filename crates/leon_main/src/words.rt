@@ -2,7 +2,7 @@ ghost use Rattle.std.specs.Prelude.{◌≡◌, ◌≤◌, map, option_map, strin
 ghost use Rattle.std.specs.Char.{is_digit};
 ghost use Rattle.std.specs.List.{list_all};
 ghost use Rattle.run_texts.specs.Text.{numeral, hexadecimal};
-ghost use Rattle.leon_main.specs.Words.{is_text, is_dashed, undashed, number, size, play_request, generate_request, codes_request, request_of, told, asked, SizeFits};
+ghost use Rattle.leon_main.specs.Words.{is_text, is_dashed, undashed, number, size, run_request, generate_request, codes_request, request_of, told, asked, SizeFits};
 
 use std::alloc::AllocError;
 use std::io;
@@ -50,6 +50,8 @@ impl From<AllocError> for WordsErr {
 pub enum Command<'a> {
     /// A run of the image, for a configuration, a script of flips and a schedule.
     Play(Names<'a>),
+    /// The audit of a report, for an image, a configuration and a script of flips.
+    Audit(Names<'a>),
     /// The image of a generated program.
     Generate {
         /// The number from which its pseudo-random numbers are made.
@@ -67,7 +69,8 @@ pub struct Names<'a> {
     pub image: &'a str,
     pub configuration: &'a str,
     pub script: &'a str,
-    pub schedule: &'a str,
+    /// The schedule by which the run is played, or the report of it that is audited.
+    pub last: &'a str,
 }
 
 /// The word is `play`.
@@ -75,6 +78,13 @@ fn is_play(word: &str) -> bool
     ensures { result ≡ is_text (codes "play") word.now }
 {
     word == "play"
+}
+
+/// The word is `audit`.
+fn is_audit(word: &str) -> bool
+    ensures { result ≡ is_text (codes "audit") word.now }
+{
+    word == "audit"
 }
 
 /// The word is `gen`.
@@ -105,7 +115,7 @@ fn undashed(names: Names<'_>) -> Option<Names<'_>>
     if is_dashed(names.image)
         || is_dashed(names.configuration)
         || is_dashed(names.script)
-        || is_dashed(names.schedule)
+        || is_dashed(names.last)
     {
         None
     } else {
@@ -113,12 +123,16 @@ fn undashed(names: Names<'_>) -> Option<Names<'_>>
     }
 }
 
-/// A run of these files, `None` where the words are not taken.
-fn play_of<'a>(command: &str, names: Names<'a>) -> Option<Command<'a>>
-    ensures { option_map asked result ≡ play_request command.now (told names.entry) }
+/// A run of these files or the audit of one, `None` where the words are not taken.
+#[tactic(auto, unfolding(crate::specs::Words::run_request))]
+fn run_of<'a>(command: &str, names: Names<'a>) -> Option<Command<'a>>
+    ensures request { option_map asked result ≡ run_request command.now (told names.entry) }
+    ensures fits { IfSome result SizeFits }
 {
     if is_play(command) {
         Some(Command::Play(undashed(names)?))
+    } else if is_audit(command) {
+        Some(Command::Audit(undashed(names)?))
     } else {
         None
     }
@@ -157,14 +171,14 @@ pub fn command_of(words: &[String]) -> Option<Command<'_>>
     ensures fits { IfSome result SizeFits }
 {
     match words {
-        [_, command, image, configuration, script, schedule] => {
+        [_, command, image, configuration, script, last] => {
             let names = Names {
                 image: image.as_str(),
                 configuration: configuration.as_str(),
                 script: script.as_str(),
-                schedule: schedule.as_str(),
+                last: last.as_str(),
             };
-            play_of(command.as_str(), names)
+            run_of(command.as_str(), names)
         }
         [_, command, start, size] => generate_of(command.as_str(), start.as_str(), size.as_str()),
         [_, command, word] => codes_of(command.as_str(), word.as_str()),

@@ -5,6 +5,7 @@ use Rattle.lf_model.proofs.NeverStops.{headline_never_stops}
 use Rattle.leon_main.proofs.DecideLemmas.{decides}
 use Rattle.leon_main.proofs.MemoryLemmas.{memory_line}
 use Rattle.leon_main.proofs.SettledLemmas.{settled}
+use Rattle.leon_main.proofs.VerdictLemmas.{one_verdict}
 use Rattle.leon_main.proofs.call.plain_call.Goals as goal
 
 -- The outcome, and what was told of it, decide the answer.
@@ -19,7 +20,10 @@ pub returns-clause-never_stops : goal.returns-clause-never_stops
 returns-clause-never_stops g c setup events trace played never = headline_never_stops setup trace played.headline never
 
 pub returns-clause-settled : goal.returns-clause-settled
-returns-clause-settled g c names held = settled names held
+returns-clause-settled g c task names held = settled task names held
+
+pub returns-clause-one_verdict : goal.returns-clause-one_verdict
+returns-clause-one_verdict g c setup trace = one_verdict setup trace
 
 pub returns-clause-memory : goal.returns-clause-memory
 returns-clause-memory g c seven =
