@@ -1,8 +1,11 @@
 -- What an instruction reads and writes at most, and how a trap shows: it disables traps and writes cells, and no other
 -- instruction does both.
-use Rattle.std.proofs.Common.{◌≡◌, ◌∙◌, ◌+◌, ◌≤◌, ◌==◌, ℕ, Bool, cond, true, false, List, [], ◌∷◌, ◌++◌, length, Option, Some, None, refl, inl, inr, ◌⊎◌, arith, length-append}
-use Rattle.std.specs.Prelude.{slice_set, ⊤}
+use Rattle.std.proofs.Common.{◌≡◌, ◌∙◌, ◌+◌, ◌-◌, ◌*◌, ◌%◌, ◌<◌, ◌≤◌, ◌==◌, nat_lt, ℕ, Bool, cond, true, false, List, [], ◌∷◌, ◌++◌, length, Option, Some, None, refl, inl, inr, ◌⊎◌, arith, length-append}
+use Rattle.std.specs.Prelude.{slice_set, ⊤, All}
+use Rattle.std.proofs.lemmas.Bool.{ltb-true}
+use Rattle.std.proofs.lemmas.List.Elements.{All-nil, All-cons, All-append}
 use Rattle.lf_model.specs.Alternate.{is_plain_space, control_effect}
+use Rattle.lf_model.specs.Course.Arrays.{register_cells}
 use Rattle.lf_model.specs.Effect.{Site, AccessKind, Access, Effect, with_reads, sum_of_operands, cell_written, changes, operates}
 use Rattle.lf_model.specs.Effects.{completed, effect}
 use Rattle.lf_model.specs.Instructions.{operand_registers, stored_registers, registers_read, instruction_of}
@@ -79,6 +82,7 @@ LoadsOnly (Some x) = x.kind ≡ AccessKind.Load → x.put ≡ 0
 record IsPlain (s : State) (e : Effect) : Type 0 where
   trap : e.trap ≡ None
   few : length e.writes ≤ 2
+  low : All (λ c. c < register_cells) e.writes
   loads : LoadsOnly e.access
   stays : (e.writes ≡ []) ⊎ ((got : ℕ) → (e.next got).ctl.et ≡ s.ctl.et)
 
@@ -89,6 +93,28 @@ written_few s rd = by (rd == 0)
     by true = omega arith
     by false = omega arith
 
+-- ---- cells that are written
+
+pub cell_low : (window n : ℕ) → cell window n < register_cells
+cell_low window n = by (nat_lt n 8) refl
+  where
+    by : (b : Bool) → nat_lt n 8 ≡ b → cond b n (8 + (16 * window + n - 8) % 128) < register_cells
+    by true is = let low = ltb-true n 8 is in omega (arith, low)
+    by false is = omega arith
+
+none_low : All (λ c. c < register_cells) []
+none_low = All-nil (λ c. c < register_cells)
+
+one_low : (window n : ℕ) (cells : List ℕ) → All (λ c. c < register_cells) cells → All (λ c. c < register_cells) (cell window n ∷ cells)
+one_low window n cells rest = All-cons (λ c. c < register_cells) (cell window n) cells (cell_low window n) rest
+
+written_low : (s : State) (rd : ℕ) → All (λ c. c < register_cells) (cell_written s rd)
+written_low s rd = by (rd == 0)
+  where
+    by : (b : Bool) → All (λ c. c < register_cells) (cond b [] (cell s.ctl.cwp rd ∷ []))
+    by true = none_low
+    by false = one_low s.ctl.cwp rd [] none_low
+
 enabled_in : (n value : ℕ) (s : State) → (with_register n value s).ctl.et ≡ s.ctl.et
 enabled_in n value s = by (n == 0)
   where
@@ -97,25 +123,26 @@ enabled_in n value s = by (n == 0)
     by false = refl
 
 writes_none : (s next : State) → IsPlain s (changes [] next)
-writes_none s next = record { trap = refl; few = omega arith; loads = tt; stays = inl refl }
+writes_none s next = record { trap = refl; few = omega arith; low = none_low; loads = tt; stays = inl refl }
 
 writes_one : (s t next : State) (rd : ℕ) → next.ctl.et ≡ s.ctl.et → IsPlain s (changes (cell_written t rd) next)
-writes_one s t next rd same = record { trap = refl; few = omega (arith, written_few t rd); loads = tt; stays = inr (λ got. same) }
+writes_one s t next rd same = record { trap = refl; few = omega (arith, written_few t rd); low = written_low t rd; loads = tt; stays = inr (λ got. same) }
 
 loads_one : (s : State) (x : Access) (rd : ℕ) (next : ℕ → State) → LoadsOnly (Some x) → ((got : ℕ) → (next got).ctl.et ≡ s.ctl.et) → IsPlain s (operates x (cell_written s rd) next)
-loads_one s x rd next loads same = record { trap = refl; few = omega (arith, written_few s rd); loads = loads; stays = inr same }
+loads_one s x rd next loads same = record { trap = refl; few = omega (arith, written_few s rd); low = written_low s rd; loads = loads; stays = inr same }
 
 loads_two : (s : State) (x : Access) (rd : ℕ) (next : ℕ → State) → LoadsOnly (Some x) → ((got : ℕ) → (next got).ctl.et ≡ s.ctl.et)
     → IsPlain s (operates x (cell_written s rd ++ cell_written s (rd + 1)) next)
 loads_two s x rd next loads same = record {
   trap = refl;
   few = omega (arith, length-append (cell_written s rd) (cell_written s (rd + 1)), written_few s rd, written_few s (rd + 1));
+  low = All-append (λ c. c < register_cells) (cell_written s rd) (cell_written s (rd + 1)) (written_low s rd) (written_low s (rd + 1));
   loads = loads;
   stays = inr same;
 }
 
 stores : (s : State) (x : Access) (next : ℕ → State) → x.kind ≡ AccessKind.Store → IsPlain s (operates x [] next)
-stores s x next is = record { trap = refl; few = omega arith; loads = λ other. absurd (cc); stays = inl refl }
+stores s x next is = record { trap = refl; few = omega arith; low = none_low; loads = λ other. absurd (cc); stays = inl refl }
 
 output_plain : (s : State) (addr rd : ℕ) (b : Bool) → IsPlain s (cond b (output_effect rd s) (store_effect St addr rd s))
 output_plain s addr rd true = writes_none s _
@@ -167,8 +194,8 @@ completed_plain site s (ReadState name rd) = writes_one s s _ rd (enabled_in rd 
 completed_plain site s (ReadAsr rd rs1) = writes_one s s _ rd (enabled_in rd _ s)
 completed_plain site s (Mem name rd rs1 src) = mem_plain s name (sum_of_operands s rs1 src) rd
 completed_plain site s (Alternate name rd rs1 rs2 asi) = space_plain s name (sum_of_operands s rs1 (Reg rs2)) rd (is_plain_space asi)
-completed_plain site s Stbar = record { trap = refl; few = omega arith; loads = tt; stays = inl refl }
-completed_plain site s (Flush rs1 src) = record { trap = refl; few = omega arith; loads = tt; stays = inl refl }
+completed_plain site s Stbar = record { trap = refl; few = omega arith; low = none_low; loads = tt; stays = inl refl }
+completed_plain site s (Flush rs1 src) = record { trap = refl; few = omega arith; low = none_low; loads = tt; stays = inl refl }
 completed_plain site s (Bicc c a disp22) = writes_none s _
 completed_plain site s (WriteState name rs1 src) = writes_none s _
 completed_plain site s (Rett rs1 src) = writes_none s _
@@ -186,6 +213,7 @@ completed_plain site s CpQueue = writes_none s _
 pub record IsFormed (s : State) (e : Effect) : Type 0 where
   pub few_reads : length e.reads ≤ 4
   pub few_writes : length e.writes ≤ 2
+  pub low : All (λ c. c < register_cells) e.writes
   pub loads : LoadsOnly e.access
   -- a trap has no barrier; where traps are enabled it writes cells and disables them, and else it writes none
   pub bare : (tt_ : ℕ) → e.trap ≡ Some tt_ → e.barrier ≡ None
@@ -198,10 +226,15 @@ two_or_none : (b : Bool) (c d : ℕ) → length (cond b (c ∷ d ∷ []) []) ≤
 two_or_none true c d = omega arith
 two_or_none false c d = omega arith
 
+two_low : (b : Bool) (window m n : ℕ) → All (λ c. c < register_cells) (cond b (cell window m ∷ cell window n ∷ []) [])
+two_low true window m n = one_low window m (cell window n ∷ []) (one_low window n [] none_low)
+two_low false window m n = none_low
+
 trap_formed : (s : State) (m : ℕ) (registers : List ℕ) → length registers ≤ 4 → IsFormed s (with_reads registers (trap_effect m s))
 trap_formed s m registers few = record {
   few_reads = few;
   few_writes = two_or_none s.ctl.et (cell (handler_window s.ctl.cwp) 17) (cell (handler_window s.ctl.cwp) 18);
+  low = two_low s.ctl.et (handler_window s.ctl.cwp) 17 18;
   loads = tt;
   bare = λ tt_ is. refl;
   enters = λ tt_ is on got. rw on refl;
@@ -214,6 +247,7 @@ plain_formed : (s : State) (e : Effect) (registers : List ℕ) → length regist
 plain_formed s e registers few plain = record {
   few_reads = few;
   few_writes = plain.few;
+  low = plain.low;
   loads = plain.loads;
   bare = λ tt_ is. absurd (cc);
   enters = λ tt_ is on got. absurd (cc);

@@ -19,6 +19,7 @@ fn access<A: LookUps>(x: Access, arrays: &mut A) -> Outcome
     requires { 0 < A.left arrays.old }
     ensures comes { comes_to (outcome_of result) (A.arrays arrays.new) ≡ access_by x (A.arrays arrays.old) x.kind }
     ensures left { A.left arrays.old ≤ A.left arrays.new + 1 }
+    ensures rest { A.rest arrays.new ≡ A.rest arrays.old }
 {
     match x.kind {
         AccessKind::Load => match arrays.look_data(x.addr, x.len) {
@@ -45,6 +46,7 @@ fn operation<A: LookUps>(footprint: &Footprint, arrays: &mut A) -> Outcome
     requires { 0 < A.left arrays.old }
     ensures comes { comes_to (outcome_of result) (A.arrays arrays.new) ≡ trap_by footprint.now (A.arrays arrays.old) footprint.now.trap }
     ensures left { A.left arrays.old ≤ A.left arrays.new + 1 }
+    ensures rest { A.rest arrays.new ≡ A.rest arrays.old }
 {
     if footprint.trap {
         return Outcome::OrdinaryTrap;
@@ -62,6 +64,7 @@ fn registers<A: LookUps>(footprint: &Footprint, arrays: &mut A) -> Outcome
     ensures comes { comes_to (outcome_of result) (A.arrays arrays.new)
         ≡ read_by footprint.now (A.arrays arrays.old) (read_cells footprint.now.reads.items (A.arrays arrays.old).cells) }
     ensures left { A.left arrays.old ≤ A.left arrays.new + 1 }
+    ensures rest { A.rest arrays.new ≡ A.rest arrays.old }
 {
     match arrays.read(footprint.reads.as_slice()) {
         Some(cell) => Outcome::BadRegister(cell),
@@ -76,6 +79,7 @@ fn fetched<A: LookUps>(pc: u32, footprint: &Footprint, arrays: &mut A) -> Outcom
     ensures comes { comes_to (outcome_of result) (A.arrays arrays.new)
         ≡ looked_by footprint.now (A.arrays arrays.old) (look pc 4 (A.arrays arrays.old).fetch_cache) }
     ensures left { A.left arrays.old ≤ A.left arrays.new + 2 }
+    ensures rest { A.rest arrays.new ≡ A.rest arrays.old }
 {
     match arrays.look_fetch(pc) {
         LookUp::Hit(_) => registers(footprint, arrays),
@@ -91,6 +95,7 @@ pub fn attempt<A: LookUps>(is_text: bool, pc: u32, footprint: &Footprint, arrays
     ensures comes { (image : Image) (s : State) (e : Effect) → is_text_word image.text pc ≡ is_text → s.ctl.pc ≡ pc → IsFootprint s.ctl.cwp e footprint.now
         → comes_to (outcome_of result) (A.arrays arrays.new) ≡ attempt image s e (A.arrays arrays.old) }
     ensures left { A.left arrays.old ≤ A.left arrays.new + 2 }
+    ensures rest { A.rest arrays.new ≡ A.rest arrays.old }
 {
     if is_text {
         fetched(pc, footprint, arrays)

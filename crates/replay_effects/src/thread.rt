@@ -113,6 +113,13 @@ impl<'a> Thread<'a> {
         self.program.fetch(self.arch.ctl.pc).is_some()
     }
 
+    /// Traps are enabled.
+    pub fn traps_enabled(&self) -> bool
+        ensures { result ≡ self.now.run.state.ctl.et }
+    {
+        self.arch.ctl.et
+    }
+
     /// The instruction at PC is tried on a copy of the core, where a load reads this number, and a store waits or doesn't.
     fn tried(&self, got: u64, waiting: bool) -> Tried<'a>
         requires going { self.now.run.state.halt ≡ None }
